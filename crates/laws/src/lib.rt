@@ -1,0 +1,1 @@
+// Laws of loads, of signed sums, of the cost order and of outcomes: specs only.
