@@ -1,12 +1,16 @@
 -- What a list keeps when each of its elements is read as another: members, order, numbers.
 -- Assumes nothing.
-use Prim.Native.Nat.{ℕ}
-use mathlib.Core.Path.{_≡_, refl, ap₂, sym, _∙_}
-use mathlib.Core.Logic.{inl, inr, ⊎-elim}
+use mathlib.Core.Path.{_≡_, refl, ap₂, sym}
+use mathlib.Core.Logic.{⊎-elim}
 use mathlib.Core.List.{List, [], _∷_, map, List·Memᴰ·head, List·Memᴰ·tail, List·Memᴰ·not-nil, List·Memᴰ·cases-cons}
 use Rattle.terms.specs.Swaps.{_∈_}
 use Rattle.terms.specs.Table.{Sorted, Sorted.none, Sorted.next}
 use Rattle.theory.specs.Unique.{Sorted as InOrder, Sorted.none as done, Sorted.next as more}
+
+-- the order of lists and the theory's are one
+pub in-order : {A : Type 0} {P : A → A → Type 0} {l : List A} → Sorted P l → InOrder P l
+in-order none = done
+in-order (next p s) = more p (in-order s)
 
 module _ {A B : Type 0} (f : A → B) where
   pub mem-map : {a : A} (l : List A) → a ∈ l → f a ∈ map f l

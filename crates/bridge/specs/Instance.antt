@@ -1,11 +1,11 @@
 -- The kit of lists of n counts with the cost order: the one instance of the theory's abstract kit.
 -- Assumes nothing.
-use Prim.Native.Nat.{ℕ, zero, suc, _+_, _≤_, _<_, max}
-use mathlib.Core.Path.{_≡_, refl, ap, sym, _∙_, subst}
+use Prim.Native.Nat.{ℕ, _+_, _≤_, _<_, max}
+use mathlib.Core.Path.{_≡_, refl, ap, sym, _∙_}
 use mathlib.Core.Logic.{_⊎_, inl, inr, ⊎-elim}
 use mathlib.Core.HLevel.{Σ-prop-path}
-use mathlib.Core.List.{List, [], _∷_}
-use lib.ListN.{length, replicate, length-replicate, length-set, getD, getD-replicate}
+use mathlib.Core.List.{List}
+use lib.ListN.{length, length-replicate, length-set, getD, getD-replicate}
 use lib.Seq.{getD-set-same}
 use lib.IntN.{ℤ}
 use native.Mathlib.Omega.{arith}

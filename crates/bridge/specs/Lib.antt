@@ -6,3 +6,6 @@ pub mod Rows
 pub mod Reach
 pub mod Tables
 pub mod Settling
+pub mod Regular
+pub mod Demands
+pub mod Theorems

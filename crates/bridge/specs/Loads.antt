@@ -4,11 +4,10 @@ use Prim.Native.Nat.{ℕ, zero, suc, _+_, _-_, _<_}
 use mathlib.Core.Path.{_≡_, refl, ap, ap₂, sym, _∙_}
 use mathlib.Core.List.{List, [], _∷_}
 use native.Mathlib.Omega.{arith}
-use lib.ListN.{length, getD, set, length-set}
-use Rattle.terms.specs.Load.{plus, less, zeros, Fits, withoutOne}
+use lib.ListN.{length, getD, length-set}
+use Rattle.terms.specs.Load.{plus, less, Fits, withoutOne}
 use Rattle.terms.specs.Swaps.{exchange}
-use Rattle.laws.specs.Load.{unit, length-both, length-less, fits-length, plus-comm, plus-zeros, less-plus}
-use Rattle.laws.specs.Order.{suc-inj}
+use Rattle.laws.specs.Load.{unit, length-both, length-less, plus-comm, plus-zeros, less-plus}
 
 -- a kind of which a load has a part is one of its kinds
 pub kind-of-part : (h : List ℕ) (i : ℕ) → 0 < getD h i 0 → i < length h

@@ -5,9 +5,8 @@ use mathlib.Core.Path.{_≡_, refl, ap, sym, subst, _∙_}
 use mathlib.Core.List.{List}
 use lib.ListN.{length}
 use lib.IntN.{ℤ}
-use Rattle.terms.specs.Load.{grade}
 use Rattle.terms.specs.Order.{Before}
-use Rattle.terms.specs.Swaps.{_∈_, Swap, exchange, Step, Reaches, Reaches.stay, Reaches.forth, Reaches.back}
+use Rattle.terms.specs.Swaps.{_∈_, exchange, Step, Reaches, Reaches.stay, Reaches.forth, Reaches.back}
 use Rattle.laws.specs.Load.{From, plus-comm}
 use Rattle.laws.specs.Order.{OrderLaws}
 use Rattle.theory.specs.Kit.{Kit}

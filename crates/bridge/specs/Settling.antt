@@ -3,23 +3,23 @@
 use Prim.Native.Nat.{ℕ, zero, suc, _≤_, _<_}
 use mathlib.Core.Path.{_≡_, refl, ap, sym, subst, _∙_}
 use mathlib.Core.Logic.{_⊎_, inl, inr}
-use mathlib.Core.List.{List, [], _∷_, List·Memᴰ·head, List·Memᴰ·tail}
+use mathlib.Core.List.{List, _∷_, List·Memᴰ·head, List·Memᴰ·tail}
 use native.Mathlib.Omega.{arith}
 use lib.ListN.{length}
 use lib.IntN.{ℤ}
-use Rattle.terms.specs.Load.{Fits, grade}
+use Rattle.terms.specs.Load.{Fits}
 use Rattle.terms.specs.Order.{Before}
 use Rattle.terms.specs.Swaps.{_∈_, exchange, Step}
 use Rattle.terms.specs.Table.{Row}
 use Rattle.terms.specs.Settling.{Proper, NoneFits, FirstFit, FirstFit.hit, FirstFit.miss, Settles, Settles.done, Settles.next, Leads, Leads.stop, Leads.more}
-use Rattle.laws.specs.Load.{From, fits-length}
+use Rattle.laws.specs.Load.{From}
 use Rattle.laws.specs.Order.{OrderLaws}
 use Rattle.theory.specs.Kit.{Kit}
-use Rattle.theory.specs.Rows.{Row as RowOf, AllProper, Irr, First, First.hit as fits-here, First.miss as fits-later, first?, first-mem, first-fits, step-rank, step-grade, Steps, Steps.stop as in-place, Steps.more as onwards}
+use Rattle.theory.specs.Rows.{Row as RowOf, AllProper, Irr, First, First.hit as fits-here, First.miss as fits-later, first?, first-mem, first-fits, step-rank, Steps, Steps.stop as in-place, Steps.more as onwards}
 use Rattle.theory.specs.Settle.{nf, nf-irr, nf-first}
 use Rattle.bridge.specs.Instance.{Load, load-path, sum, rest-of, fits-of, the-kit}
 use Rattle.bridge.specs.Carry.{mem-map, mem-unmap}
-use Rattle.bridge.specs.Rows.{plain, plain-one, plain-table}
+use Rattle.bridge.specs.Rows.{plain, plain-table}
 use Rattle.bridge.specs.Reach.{step-up, step-down}
 
 -- ---- one end, whatever the table

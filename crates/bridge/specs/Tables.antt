@@ -8,9 +8,9 @@ use mathlib.Core.List.{List}
 use native.Mathlib.Omega.{arith}
 use lib.ListN.{length, getD, length-set, length-replicate}
 use lib.IntN.{ℤ}
-use Rattle.terms.specs.Load.{grade, plus, zeros, withoutOne}
+use Rattle.terms.specs.Load.{plus, zeros, withoutOne}
 use Rattle.terms.specs.Order.{Before, Lex}
-use Rattle.terms.specs.Swaps.{_∈_, Reaches}
+use Rattle.terms.specs.Swaps.{Reaches}
 use Rattle.terms.specs.Table.{FirstReached, Settled, Head, Row, Above, Finished}
 use Rattle.laws.specs.Load.{From, unit}
 use Rattle.laws.specs.Order.{OrderLaws, Which, Which.first, Which.equal, Which.second, lex-irrefl, lex-trans, lex-compare}
@@ -23,7 +23,7 @@ use Rattle.theory.specs.Finished.{Strict, Finished as FinishedIn}
 use Rattle.bridge.specs.Instance.{Load, load-path, sum, Part, the-kit}
 use Rattle.bridge.specs.Carry.{mem-map, mem-unmap, sorted-up, sorted-down}
 use Rattle.bridge.specs.Loads.{kind-of-part, length-without, without-back, back-without, part-there}
-use Rattle.bridge.specs.Rows.{plain, plain-table, Sided, plain-sheet}
+use Rattle.bridge.specs.Rows.{plain, plain-table, plain-sheet, Sided, loads-table, plain-loads}
 use Rattle.bridge.specs.Reach.{reaches-up, reaches-down}
 
 -- ---- the order of heads at one grade
@@ -153,3 +153,10 @@ module _ (n : ℕ) (sizes : List ℕ) (sized : length sizes ≡ n) (pos : From 1
     finished-sided bound T f a m =
         let e : length (a .head) ≡ n = f .heads a m .counts in
         record { of-head = e; of-tail = match .keeps e (f .tails a m .reached) }
+
+    -- a finished table of lists is read from one of the theory's
+    pub finished-loads : (bound : ℕ) (T : List Row) → Finished n bound sizes costs reach T → (U : List (RowOf (Load n))) × (plain-table U ≡ T) × FinishedIn K ByCounts R bound U
+    finished-loads bound T f =
+        let w : Sided n T = finished-sided bound T f in
+        let U : List (RowOf (Load n)) = loads-table T w in
+        (U, plain-loads T w, finished-up bound U (subst (Finished n bound sizes costs reach) (sym (plain-loads T w)) f))
