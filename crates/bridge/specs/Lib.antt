@@ -7,5 +7,6 @@ pub mod Reach
 pub mod Tables
 pub mod Settling
 pub mod Regular
+pub mod Sheet
 pub mod Demands
 pub mod Theorems

@@ -28,9 +28,10 @@ use Rattle.theory.specs.Room.{distinct-le}
 use Rattle.bridge.specs.Instance.{Load}
 use Rattle.bridge.specs.Carry.{in-order, mem-unmap}
 use Rattle.bridge.specs.Rows.{plain, plain-table, Sided, loads-table, plain-loads, IsSheet, loads-sheet, loads-even}
-use Rattle.bridge.specs.Tables.{ByCounts, by-counts, finished-down, finished-sided}
+use Rattle.bridge.specs.Tables.{ByCounts, by-counts, finished-sided}
 use Rattle.bridge.specs.Settling.{settles-one, proper-up}
-use Rattle.bridge.specs.Regular.{IsKit, Regular, kit-of, OfLoads, regular-alike, regular-matches, ReachOf, reaches-alike, reaches-matches}
+use Rattle.bridge.specs.Regular.{IsKit, Regular, kit-of, OfLoads, regular-alike, regular-matches}
+use Rattle.bridge.specs.Sheet.{sheet-finished}
 use Rattle.bridge.specs.Demands.{Ends, ends-loads, Loaded, loaded, proper-loads, first-loads, sequence-loads, joined-loads}
 
 -- Settling ends at one load, whatever the table.
@@ -42,7 +43,7 @@ module _ {n : ℕ} {sizes : List ℕ} (costs : List ℤ) (kit : IsKit n sizes) w
   pub finished-exists : (sheet : List Swap) → IsSheet n sizes sheet → (bound : ℕ) → (T : List Row) × Finished n bound sizes costs (Reaches sheet) T
   finished-exists sheet swaps bound =
       let t = finished-some (kit-of costs kit) ByCounts (by-counts n) (loads-sheet sizes sheet swaps) (loads-even sizes sheet swaps) bound in
-      (plain-table (t .0), finished-down n sizes (kit .of-sizes) (kit .from-one) costs (before-laws costs n) (Reaches sheet) (ReachOf costs kit sheet swaps) (reaches-alike costs kit sheet swaps) (reaches-matches costs kit sheet swaps) bound (t .0) (t .1))
+      (plain-table (t .0), sheet-finished costs kit sheet swaps bound (t .0) (t .1))
 
   -- Settling by any table of proper rows ends, at a load of n counts and of the same grade.
   pub settling-ends : {bound : ℕ} (T : List Row) → Sided n T → ((a : Row) → a ∈ T → Proper bound sizes costs a) → (x : List ℕ) → length x ≡ n → Ends n sizes T x
