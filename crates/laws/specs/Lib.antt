@@ -3,3 +3,9 @@ pub mod Load
 pub mod Signed
 pub mod Order
 pub mod Outcome
+pub mod Decides
+pub mod Walk
+pub mod Fill
+pub mod Flat
+pub mod Exchange
+pub mod Machine

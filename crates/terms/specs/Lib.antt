@@ -8,3 +8,4 @@ pub mod Flat
 pub mod Limits
 pub mod Refusals
 pub mod Outcome
+pub mod Decides

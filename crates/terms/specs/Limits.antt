@@ -38,6 +38,13 @@ most-count = 65535
 abbrev pub most-text : ℕ
 most-text = 65536
 
+-- a kit has 1 to 12 kinds, and a bound from 1 to 1,000
+abbrev pub KindsFine : ℕ → Type 0
+KindsFine n = (1 ≤ n) × (n ≤ most-kinds)
+
+abbrev pub BoundFine : ℕ → Type 0
+BoundFine b = (1 ≤ b) × (b ≤ most-bound)
+
 -- a size is from 1 to 1,000, and a cost at most 1,000,000 either way
 abbrev pub SizeFine : ℕ → Type 0
 SizeFine s = (1 ≤ s) × (s ≤ most-size)

@@ -1,0 +1,83 @@
+use Prim.Native.Nat.{_≤_, _-_, _+_, _*_}
+use mathlib.Core.Path.{_≡_}
+use native.Mathlib.Omega.{arith}
+use lib.ListN.{length, getD, drop}
+use Rattle.terms.specs.Load.{grade}
+use Rattle.laws.specs.Walk.{grade-next, grade-done, product16}
+use borrow.Author.Needs.{needs}
+use Rattle.loads.proofs.grade_of.Statement.{statement}
+use Rattle.loads.proofs.grade_of.Tie as tie
+
+abbrev Inv-loop : tie.InvT-loop
+Inv-loop sizes x sum₀ k₀ sum k = (k ≤ length x) × (sum + grade (drop k sizes) (drop k x) ≡ grade sizes x) × (sum ≤ k * 4294836225)
+
+abbrev μ-loop : tie.MeasureT-loop
+μ-loop sizes x sum₀ k₀ sum k = length x - k
+
+product : (c : tie.After-shared-slice-known2 Inv-loop μ-loop) →
+    getD (c .before .before .before .before .args .sizes .now) (c .before .before .before .loop .k) 0 * getD (c .before .before .before .before .args .x .now) (c .before .before .before .loop .k) 0 ≤ 4294836225
+product c =
+    let k = c .before .before .before .loop .k in
+    product16 _ _ (omega (arith, c .before .shared-slice-known .given k)) (omega (arith, c .shared-slice-known2 .given k))
+
+loop-holds : tie.Need-loop-holds Inv-loop μ-loop
+loop-holds c = search needs
+
+mul-sum : tie.Need-mul-sum Inv-loop μ-loop
+mul-sum c = search needs
+
+shared-slice-read-sum : tie.Need-shared-slice-read-sum Inv-loop μ-loop
+shared-slice-read-sum c = search needs
+
+cast-sum : tie.Need-cast-sum Inv-loop μ-loop
+cast-sum c = omega (arith, c .shared-slice-known .given (c .before .before .loop .k))
+
+mul-sum-2 : tie.Need-mul-sum-2 Inv-loop μ-loop
+mul-sum-2 c = search needs
+
+shared-slice-read-sum-2 : tie.Need-shared-slice-read-sum-2 Inv-loop μ-loop
+shared-slice-read-sum-2 c = search needs
+
+cast-sum-2 : tie.Need-cast-sum-2 Inv-loop μ-loop
+cast-sum-2 c = omega (arith, c .shared-slice-known2 .given (c .before .before .before .loop .k))
+
+mul-sum-3 : tie.Need-mul-sum-3 Inv-loop μ-loop
+mul-sum-3 c = omega (arith, product c)
+
+add-sum : tie.Need-add-sum Inv-loop μ-loop
+add-sum c = omega (arith, product c)
+
+add-k : tie.Need-add-k Inv-loop μ-loop
+add-k c = search needs
+
+loop-less : tie.Need-loop-less Inv-loop μ-loop
+loop-less c = search needs
+
+loop-again : tie.Need-loop-again Inv-loop μ-loop
+loop-again c =
+    let k = c .before .before .before .loop .k in
+    let args = c .before .before .before .before .args in
+    omega (arith, product c, grade-next (args .sizes .now) (args .x .now) k (omega arith) (omega arith))
+
+returns : tie.Need-returns Inv-loop μ-loop
+returns c = omega (arith, grade-done (c .before .before .args .sizes .now) (c .before .before .args .x .now) (c .before .loop .k) (omega arith))
+
+pub grade-of-spec : {M : Type 1} → statement M
+grade-of-spec =
+    tie.close
+    (tie.spec
+    Inv-loop
+    μ-loop
+    loop-holds
+    mul-sum
+    shared-slice-read-sum
+    cast-sum
+    mul-sum-2
+    shared-slice-read-sum-2
+    cast-sum-2
+    mul-sum-3
+    add-sum
+    add-k
+    loop-less
+    loop-again
+    returns)
