@@ -245,3 +245,12 @@ module _ (cs : List ℤ) where
 
 unfoldable pub before-laws : (cs : List ℤ) (n : ℕ) → OrderLaws n (Before cs)
 before-laws cs n = by-cost cs n Lex (lex-laws n)
+
+-- x comes before y, or does not
+unfoldable pub before? : (cs : List ℤ) (n : ℕ) (x y : List ℕ) → length x ≡ n → length y ≡ n → Dec (Before cs x y)
+before? cs n x y e f = go (before-laws cs n .compare x y e f)
+  where
+    go : Which (Before cs x y) (x ≡ y) (Before cs y x) → Dec (Before cs x y)
+    go (first b) = yes b
+    go (equal q) = no (λ b. before-laws cs n .irrefl y (subst (λ (l : List ℕ). Before cs l y) q b))
+    go (second b) = no (λ k. before-laws cs n .irrefl x (before-laws cs n .trans x y x k b))

@@ -1,0 +1,2 @@
+-- What the contracts of `compare` cite besides the terms.
+pub mod Earlier
