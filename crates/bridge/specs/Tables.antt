@@ -31,7 +31,7 @@ use Rattle.bridge.specs.Reach.{reaches-up, reaches-down}
 abbrev pub ByCounts : {n : ℕ} → Load n → Load n → Type 0
 ByCounts x y = Lex (x .0) (y .0)
 
-pub by-counts : (n : ℕ) → Strict (ByCounts {n = n})
+unfoldable pub by-counts : (n : ℕ) → Strict (ByCounts {n = n})
 by-counts n = record {
   irrefl = λ x. lex-irrefl (x .0);
   trans = λ x y z. lex-trans (x .0) (y .0) (z .0);
