@@ -106,19 +106,15 @@ load-3 a b c = a ∷ b ∷ c ∷ []
 abbrev pub load-4 : ℕ → ℕ → ℕ → ℕ → List ℕ
 load-4 a b c d = a ∷ b ∷ c ∷ d ∷ []
 
--- the rows of kit A
-abbrev pub first-three : List ℕ
-first-three =
+-- the rows of kit A: the first three and what follows, and the fourth
+abbrev pub first-three : List ℕ → List ℕ
+first-three rest =
     0 ∷ 2 ∷ 0 ∷ 0 ∷ 1 ∷ 0 ∷ 1 ∷ 0 ∷
     0 ∷ 1 ∷ 0 ∷ 1 ∷ 0 ∷ 0 ∷ 2 ∷ 0 ∷
-    0 ∷ 1 ∷ 2 ∷ 0 ∷ 1 ∷ 0 ∷ 1 ∷ 1 ∷ []
+    0 ∷ 1 ∷ 2 ∷ 0 ∷ 1 ∷ 0 ∷ 1 ∷ 1 ∷ rest
 
-abbrev pub all-four : List ℕ
-all-four =
-    0 ∷ 2 ∷ 0 ∷ 0 ∷ 1 ∷ 0 ∷ 1 ∷ 0 ∷
-    0 ∷ 1 ∷ 0 ∷ 1 ∷ 0 ∷ 0 ∷ 2 ∷ 0 ∷
-    0 ∷ 1 ∷ 2 ∷ 0 ∷ 1 ∷ 0 ∷ 1 ∷ 1 ∷
-    1 ∷ 0 ∷ 1 ∷ 2 ∷ 0 ∷ 0 ∷ 4 ∷ 0 ∷ []
+abbrev pub fourth : List ℕ
+fourth = 1 ∷ 0 ∷ 1 ∷ 2 ∷ 0 ∷ 0 ∷ 4 ∷ 0 ∷ []
 
 abbrev pub line : Given → Asked → Answer → List ℕ → Example
 line g a o l = record { given = g; asked = a; answer = o; after = l }
@@ -127,8 +123,8 @@ line g a o l = record { given = g; asked = a; answer = o; after = l }
 
 abbrev pub examples : List Example
 examples =
-    line (kit-A 12) (complete 4) (rows 4) all-four ∷  -- P1
-    line (kit-A 11) (complete 3) (rows 3) first-three ∷  -- P2
+    line (kit-A 12) (complete 4) (rows 4) (first-three fourth) ∷  -- P1
+    line (kit-A 11) (complete 3) (rows 3) (first-three []) ∷  -- P2
     line (kit-A 12) (complete 3) (refused 8) (zeros 24) ∷  -- P3
     line (kit-A 3) (complete 0) (rows 0) [] ∷  -- P4
     line (kit-A 4) (complete 0) (refused 8) [] ∷  -- P5

@@ -2,3 +2,8 @@
 pub mod Examples
 pub mod Shown
 pub mod Worked
+pub mod Shortcuts
+pub mod Wrong
+pub mod Words
+pub mod Still
+pub mod Touchstones
