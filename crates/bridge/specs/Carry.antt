@@ -22,12 +22,6 @@ module _ {A B : Type 0} (f : A → B) where
   mem-unmap {b} (c ∷ l) m =
       ⊎-elim (λ (e : b ≡ f c). (c, List·Memᴰ·head refl, sym e)) (λ (k : b ∈ map f l). let r = mem-unmap l k in (r .0, List·Memᴰ·tail (r .1), r .2)) (List·Memᴰ·cases-cons m)
 
-  pub map-one : ((a b : A) → f a ≡ f b → a ≡ b) → (l k : List A) → map f l ≡ map f k → l ≡ k
-  map-one inj [] [] e = refl
-  map-one inj [] (b ∷ k) e = cc
-  map-one inj (a ∷ l) [] e = cc
-  map-one inj (a ∷ l) (b ∷ k) e = ap₂ _∷_ (inj a b (cc)) (map-one inj l k (cc))
-
   -- rows stand in order where what they are read as does
   pub sorted-down : (P : B → B → Type 0) {l : List A} → InOrder (λ a b. P (f a) (f b)) l → Sorted P (map f l)
   sorted-down P done = none

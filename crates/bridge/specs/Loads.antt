@@ -1,13 +1,13 @@
 -- Loads as lists and as the theory's loads: one part taken out, and one side exchanged for the other.
 -- Assumes nothing.
-use Prim.Native.Nat.{ℕ, zero, suc, _+_, _-_, _<_}
-use mathlib.Core.Path.{_≡_, refl, ap, ap₂, sym, _∙_}
+use Prim.Native.Nat.{ℕ, zero, suc, _-_, _<_}
+use mathlib.Core.Path.{_≡_, refl, ap, ap₂, _∙_}
 use mathlib.Core.List.{List, [], _∷_}
 use native.Mathlib.Omega.{arith}
 use lib.ListN.{length, getD, length-set}
-use Rattle.terms.specs.Load.{plus, less, Fits, withoutOne}
+use Rattle.terms.specs.Load.{plus, withoutOne}
 use Rattle.terms.specs.Swaps.{exchange}
-use Rattle.laws.specs.Load.{unit, length-both, length-less, plus-comm, plus-zeros, less-plus}
+use Rattle.laws.specs.Load.{unit, plus-comm, plus-zeros, less-plus}
 
 -- a kind of which a load has a part is one of its kinds
 pub kind-of-part : (h : List ℕ) (i : ℕ) → 0 < getD h i 0 → i < length h
@@ -34,10 +34,6 @@ pub part-there : (d : List ℕ) (i : ℕ) → i < length d → 0 < getD (plus d 
 part-there [] i l = absurd (omega arith)
 part-there (d ∷ ds) zero l = omega arith
 part-there (d ∷ ds) (suc i) l = part-there ds i (omega arith)
-
--- what is exchanged keeps the number of kinds
-pub length-exchange : (h t x : List ℕ) → length t ≡ length h → Fits h x → length (exchange h t x) ≡ length h
-length-exchange h t x e w = length-both _+_ (less x h) t (length-less h x w ∙ sym e) ∙ length-less h x w
 
 -- h and what is left, exchanged: t and what is left
 pub exchange-rest : (h t c : List ℕ) → length c ≡ length h → exchange h t (plus h c) ≡ plus t c
