@@ -1,0 +1,4 @@
+-- Laws that belong to no one function.
+pub mod Walk
+pub mod Entering
+pub mod Laws
