@@ -191,7 +191,7 @@ grade-grows ws x u e d f n = omega (arith, grade-pos ws u d f n, grade-plus ws u
 
 -- ---- units
 
-fits-zeros : (x : List ℕ) → Fits (zeros (length x)) x
+pub fits-zeros : (x : List ℕ) → Fits (zeros (length x)) x
 fits-zeros [] = tt
 fits-zeros (x ∷ xs) = (omega arith, fits-zeros xs)
 
