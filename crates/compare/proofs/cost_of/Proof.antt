@@ -41,11 +41,11 @@ mul-sum-2 c = search needs
 shared-slice-copy-out-sum : tie.Need-shared-slice-copy-out-sum Inv-loop μ-loop
 shared-slice-copy-out-sum c = search needs
 
-cast-sum-2 : tie.Need-cast-sum-2 Inv-loop μ-loop
-cast-sum-2 c = cost-fits _ _ (count-known c) (cost-known c)
-
 mul-sum-3 : tie.Need-mul-sum-3 Inv-loop μ-loop
 mul-sum-3 c = term-fits _ _ (count-known c) (cost-known c)
+
+cast-sum-2 : tie.Need-cast-sum-2 Inv-loop μ-loop
+cast-sum-2 c = cost-fits _ _ (count-known c) (cost-known c)
 
 add-sum : tie.Need-add-sum Inv-loop μ-loop
 add-sum c =
