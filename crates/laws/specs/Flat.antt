@@ -1,14 +1,14 @@
 -- Where the rows of a flat table lie.
 -- Assumes nothing.
 use Prim.Native.Nat.{ℕ, zero, suc, _+_, _*_, _-_, _/_, _<_, _≤_}
-use mathlib.Core.Path.{_≡_, refl, ap, subst, _∙_}
+use mathlib.Core.Path.{_≡_, ap, subst, _∙_}
 use mathlib.Core.Logic.{⊎-elim}
 use mathlib.Core.List.{List, List·Memᴰ·head, List·Memᴰ·tail, List·Memᴰ·not-nil, List·Memᴰ·cases-cons}
 use native.Mathlib.Omega.{arith}
 use native.Mathlib.Nat.{mul-le-mul-right, suc-mul, add-sub-cancel-left, mul-div-cancel}
 use lib.ListN.{length, take, drop, length-take, length-drop}
 use Rattle.terms.specs.Swaps.{_∈_}
-use Rattle.terms.specs.Flat.{leftAt, rightAt, numbered, rowsLent}
+use Rattle.terms.specs.Flat.{leftAt, rightAt, numbered}
 
 -- row r of `rows` rows lies within the table
 pub row-in : (n rows r len : ℕ) → r < rows → rows * (2 * n) ≤ len → r * (2 * n) + 2 * n ≤ len

@@ -6,10 +6,10 @@
 -- Assumes nothing.
 use Prim.Native.Nat.{ℕ, zero, suc, _<_}
 use mathlib.Core.Path.{_≡_, sym, _∙_}
-use mathlib.Core.Logic.{_⊎_, inl, inr}
+use mathlib.Core.Logic.{inl, inr}
 use mathlib.Core.List.{List, [], _∷_, _++_}
 use native.Mathlib.Omega.{arith}
-use Rattle.terms.specs.Outcome.{Test, Outcome, must, inTurn}
+use Rattle.terms.specs.Outcome.{Test, Outcome, inTurn}
 
 -- every test holds
 abbrev pub AllHold : {O : Type 0} → List (Test O) → Type 0

@@ -1,4 +1,3 @@
-use native.Mathlib.Omega.{arith}
 use borrow.Author.Tests.{not-true, not-false}
 use Rattle.laws.specs.Decides.{decides-no, decides-same}
 use borrow.Author.Needs.{needs}
