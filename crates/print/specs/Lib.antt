@@ -1,0 +1,2 @@
+-- The lines of output, as lists of bytes.
+pub mod Lines
