@@ -1,0 +1,2 @@
+-- What the calls answer, in numbers.
+pub mod Answers
