@@ -1,20 +1,24 @@
--- How long a line is at most, for whoever lends the buffer. Every number here has at most five digits. Assumes nothing.
-use Prim.Native.Nat.{ℕ, suc, _+_, _*_, _≤_, _<_}
+-- How long a line is at most, for whoever lends the buffer: a count has at most five digits, and any number of the machine at most twenty. Assumes nothing.
+use Prim.Native.Nat.{ℕ, suc, _+_, _*_, _^_, _≤_, _<_}
 use mathlib.Core.List.{List, [], _∷_, _++_}
 use native.Mathlib.Omega.{arith}
 use lib.ListN.{length, getD, length-append}
-use Rattle.print.specs.Lines.{digits, field, fields, ruleLine, doneLine, refusedLine}
+use Rattle.print.specs.Lines.{digits, field, fields, ruleLine, doneLine, refusedLine, ruleMost, doneMost, refusedMost}
 use Rattle.print.proofs.Digits.{digits-most}
 
-pub field-most : (n : ℕ) → n < 100000 → length (field n) ≤ 6
-field-most n h = omega (arith, digits-most 4 n h)
+-- numbers of 64 and of 16 bits
+field-most : (n : ℕ) → n < 18446744073709551616 → length (field n) ≤ 21
+field-most n h = omega (arith, digits-most 19 n (omega arith))
 
-pub fields-most : (xs : List ℕ) → ((i : ℕ) → getD xs i 0 < 100000) → length (fields xs) ≤ 6 * length xs
+count-most : (n : ℕ) → n < 65536 → length (field n) ≤ 6
+count-most n h = omega (arith, digits-most 4 n (omega arith))
+
+fields-most : (xs : List ℕ) → ((i : ℕ) → getD xs i 0 < 65536) → length (fields xs) ≤ 6 * length xs
 fields-most [] h = omega arith
 fields-most (x ∷ xs) h =
-    omega (arith, length-append (field x) (fields xs), field-most x (h 0), fields-most xs (λ i. h (suc i)))
+    omega (arith, length-append (field x) (fields xs), count-most x (h 0), fields-most xs (λ i. h (suc i)))
 
-pub rule-line-most : (grade : ℕ) (row : List ℕ) → grade < 100000 → ((i : ℕ) → getD row i 0 < 100000) → length (ruleLine grade row) ≤ 11 + 6 * length row
+pub rule-line-most : (grade : ℕ) (row : List ℕ) → grade < 18446744073709551616 → ((i : ℕ) → getD row i 0 < 65536) → length (ruleLine grade row) ≤ ruleMost (length row)
 rule-line-most grade row h hs =
     omega (
       arith,
@@ -24,10 +28,10 @@ rule-line-most grade row h hs =
       fields-most row hs,
     )
 
-pub done-line-most : (load : List ℕ) → ((i : ℕ) → getD load i 0 < 100000) → length (doneLine load) ≤ 5 + 6 * length load
+pub done-line-most : (load : List ℕ) → ((i : ℕ) → getD load i 0 < 65536) → length (doneLine load) ≤ doneMost (length load)
 done-line-most load hs = omega (arith, length-append (fields load) (10 ∷ []), fields-most load hs)
 
-pub refused-line-most : (why at : ℕ) → why < 100000 → at < 100000 → length (refusedLine why at) ≤ 20
+pub refused-line-most : (why at : ℕ) → why < 18446744073709551616 → at < 18446744073709551616 → length (refusedLine why at) ≤ refusedMost
 refused-line-most why at h k =
     omega (
       arith,

@@ -40,29 +40,27 @@ room-first a b at o h = omega (arith, length-append a b)
 pub room-second : (b : List ℕ) {a o o′ : List ℕ} {at r : ℕ} → Room (a ++ b) at o → Stored a at o r o′ → Room b r o′
 room-second b {a} h p = omega (arith, length-append a b, p .next, stored-length p)
 
--- A loop that stores the run of each element of xs, one after the other.
-each-append : (f : ℕ → List ℕ) (xs ys : List ℕ) → each f (xs ++ ys) ≡ each f xs ++ each f ys
-each-append f [] ys = refl
-each-append f (x ∷ xs) ys =
-    ap (λ (l : List ℕ). f x ++ l) (each-append f xs ys) ∙ sym (append-assoc (f x) (each f xs) (each f ys))
+-- A loop that stores the run of each element, one after the other.
+module _ {A : Type 0} (f : A → List ℕ) where
+  each-append : (xs ys : List A) → each f (xs ++ ys) ≡ each f xs ++ each f ys
+  each-append [] ys = refl
+  each-append (x ∷ xs) ys =
+      ap (λ (l : List ℕ). f x ++ l) (each-append xs ys) ∙ sym (append-assoc (f x) (each f xs) (each f ys))
 
-each-split : (f : ℕ → List ℕ) (xs : List ℕ) (i : ℕ) → each f xs ≡ each f (take i xs) ++ each f (drop i xs)
-each-split f xs i = ap (each f) (sym (take-append-drop i xs)) ∙ each-append f (take i xs) (drop i xs)
+  each-split : (xs : List A) (i : ℕ) → each f xs ≡ each f (take i xs) ++ each f (drop i xs)
+  each-split xs i = ap (each f) (sym (take-append-drop i xs)) ∙ each-append (take i xs) (drop i xs)
 
-each-snoc : (f : ℕ → List ℕ) (xs : List ℕ) (i : ℕ) → i < length xs → each f (take (i + 1) xs) ≡ each f (take i xs) ++ f (getD xs i 0)
-each-snoc f xs i h =
-    rw (add-one, take-suc xs i 0)
-    (each-append f (take i xs) (getD xs i 0 ∷ []) ∙ ap (λ (l : List ℕ). each f (take i xs) ++ l) (append-nil (f (getD xs i 0))))
+  pub each-snoc : (xs : List A) (x : A) → each f (xs ++ (x ∷ [])) ≡ each f xs ++ f x
+  each-snoc xs x = each-append xs (x ∷ []) ∙ ap (λ (l : List ℕ). each f xs ++ l) (append-nil (f x))
 
 module _ (f : ℕ → List ℕ) {o o′ : List ℕ} {at r : ℕ} (xs : List ℕ) (i : ℕ) (h : i < length xs) (p : Stored (each f (take i xs)) at o r o′) where
   pub each-room : Room (each f xs) at o → Room (f (getD xs i 0)) r o′
   each-room room =
       room-first (f (getD xs i 0)) (each f (drop (suc i) xs)) r o′
-      (rw (drop-cons xs i 0 h) at
-      (room-second (each f (drop i xs)) (rw (each-split f xs i) at room) p))
+      (rw (drop-cons xs i 0 h) at (room-second (each f (drop i xs)) (rw (each-split f xs i) at room) p))
 
   pub each-next : {o″ : List ℕ} {s : ℕ} → Stored (f (getD xs i 0)) r o′ s o″ → Stored (each f (take (i + 1) xs)) at o s o″
-  each-next q = rw (each-snoc f xs i h) (stored-then p q)
+  each-next q = rw (add-one i, take-suc xs i 0 h, each-snoc f (take i xs) (getD xs i 0)) (stored-then p q)
 
 pub each-end : (f : ℕ → List ℕ) {o o′ : List ℕ} {at r : ℕ} (xs : List ℕ) (i : ℕ) → length xs ≤ i → Stored (each f (take i xs)) at o r o′ → Stored (each f xs) at o r o′
 each-end f xs i g p = rw (take-all i xs g) at p

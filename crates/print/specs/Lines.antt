@@ -1,5 +1,5 @@
 -- The lines that the program prints, as lists of bytes.
-use Prim.Native.Nat.{ℕ, zero, suc, _+_, _/_, _%_, _≤_}
+use Prim.Native.Nat.{ℕ, zero, suc, _+_, _*_, _/_, _%_, _≤_}
 use mathlib.Core.Bool.{cond}
 use mathlib.Core.Path.{_≡_}
 use mathlib.Core.List.{List, [], _∷_, _++_}
@@ -20,7 +20,7 @@ abbrev pub field : ℕ → List ℕ
 field n = 9 ∷ digits n
 
 -- what each element gives, one after the other
-abbrev pub each : (ℕ → List ℕ) → List ℕ → List ℕ
+abbrev pub each : {A : Type 0} → (A → List ℕ) → List A → List ℕ
 each f [] = []
 each f (x ∷ xs) = f x ++ each f xs
 
@@ -40,6 +40,16 @@ doneLine load = line (100 ∷ 111 ∷ 110 ∷ 101 ∷ []) load
 
 abbrev pub refusedLine : ℕ → ℕ → List ℕ
 refusedLine why at = line (114 ∷ 101 ∷ 102 ∷ 117 ∷ 115 ∷ 101 ∷ 100 ∷ []) (why ∷ at ∷ [])
+
+-- the greatest length of each line, by how many counts it has
+abbrev pub ruleMost : ℕ → ℕ
+ruleMost counts = 26 + 6 * counts
+
+abbrev pub doneMost : ℕ → ℕ
+doneMost counts = 5 + 6 * counts
+
+abbrev pub refusedMost : ℕ
+refusedMost = 50
 
 -- the buffer has room for the bytes from `at` on
 abbrev pub Room : List ℕ → ℕ → List ℕ → Type 0

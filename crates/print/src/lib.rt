@@ -1,6 +1,9 @@
 // The lines that the program prints, stored in a lent buffer from a place on. Each function answers the place after what it stored.
 ghost use mathlib.Core.List.{[], _∷_};
+ghost use Prim.Native.Nat.{_+_, _≤_};
+ghost use lib.ListN.{length};
 ghost use Rattle.print.specs.Lines.{digits, field, fields, Room, Stored, ruleLine, doneLine, refusedLine};
+ghost use Rattle.print.specs.Lines.{ruleMost, doneMost, refusedMost};
 
 fn byte(out: &mut [u8], at: usize, b: u8) -> usize
     requires { ⌜ Room (b ∷ []) at (now out) ⌝ }
@@ -58,8 +61,9 @@ fn word(out: &mut [u8], at: usize, letters: &[u8]) -> usize
 
 // A row of a rule table, head then tail, after its head's grade.
 pub fn rule_line(out: &mut [u8], at: usize, grade: usize, row: &[u16]) -> usize
-    requires { ⌜ Room (ruleLine grade (now row)) at (now out) ⌝ }
+    requires { ⌜ at + ruleMost (length (now row)) ≤ length (now out) ⌝ }
     ensures { λ r. ⌜ Stored (ruleLine grade (now (row .entry))) at (now (out .entry)) r (now (out .exit)) ⌝ }
+    ensures { λ r. ⌜ r ≤ at + ruleMost (length (now (row .entry))) ⌝ }
 {
     let grade_at = word(out, at, b"rule");
     let row_at = one_field(out, grade_at, grade);
@@ -68,8 +72,9 @@ pub fn rule_line(out: &mut [u8], at: usize, grade: usize, row: &[u16]) -> usize
 }
 
 pub fn done_line(out: &mut [u8], at: usize, load: &[u16]) -> usize
-    requires { ⌜ Room (doneLine (now load)) at (now out) ⌝ }
+    requires { ⌜ at + doneMost (length (now load)) ≤ length (now out) ⌝ }
     ensures { λ r. ⌜ Stored (doneLine (now (load .entry))) at (now (out .entry)) r (now (out .exit)) ⌝ }
+    ensures { λ r. ⌜ r ≤ at + doneMost (length (now (load .entry))) ⌝ }
 {
     let load_at = word(out, at, b"done");
     let end = all_fields(out, load_at, load);
@@ -77,8 +82,9 @@ pub fn done_line(out: &mut [u8], at: usize, load: &[u16]) -> usize
 }
 
 pub fn refused_line(out: &mut [u8], at: usize, why: usize, line: usize) -> usize
-    requires { ⌜ Room (refusedLine why line) at (now out) ⌝ }
+    requires { ⌜ at + refusedMost ≤ length (now out) ⌝ }
     ensures { λ r. ⌜ Stored (refusedLine why line) at (now (out .entry)) r (now (out .exit)) ⌝ }
+    ensures { λ r. ⌜ r ≤ at + refusedMost ⌝ }
 {
     let why_at = word(out, at, b"refused");
     let line_at = one_field(out, why_at, why);
