@@ -1,0 +1,35 @@
+-- A row of a flat table as one part, and a table with one row more. Assumes nothing.
+use Prim.Native.Nat.{ℕ, zero, suc, _+_, _*_, _-_, _≤_}
+use mathlib.Core.Path.{_≡_, refl, ap, _∙_}
+use mathlib.Core.List.{List, [], _∷_, _++_}
+use native.Mathlib.Nat.{add-zero, zero-add}
+use native.Mathlib.Numerals.{add-one}
+use native.Mathlib.Omega.{arith}
+use lib.ListN.{length, take, drop, length-take, length-drop}
+use lib.Seq.{take-add, drop-drop}
+use Rattle.terms.specs.Flat.{leftAt, rightAt, numbered}
+use Rattle.laws.specs.Flat.{part-is}
+
+-- the part that holds row r is its two sides
+pub row-part : (n : ℕ) (flat : List ℕ) (r : ℕ) → take (r * (2 * n) + 2 * n - r * (2 * n)) (drop (r * (2 * n)) flat) ≡ leftAt n flat r ++ rightAt n flat r
+row-part n flat r =
+    let two : 2 * n ≡ n + n = omega arith in
+    part-is flat (r * (2 * n)) (2 * n)
+    ∙ ap (λ (k : ℕ). take k (drop (r * (2 * n)) flat)) two
+    ∙ take-add n n (drop (r * (2 * n)) flat)
+    ∙ ap (λ (l : List ℕ). leftAt n flat r ++ take n l) (drop-drop n (r * (2 * n)) flat)
+
+pub row-part-long : (n : ℕ) (flat : List ℕ) (r : ℕ) → r * (2 * n) + 2 * n ≤ length flat → length (take (r * (2 * n) + 2 * n - r * (2 * n)) (drop (r * (2 * n)) flat)) ≡ 2 * n
+row-part-long n flat r h = simp (length-take, length-drop) (omega arith)
+
+numbered-suc : {A : Type 0} (item : ℕ → A) (from k : ℕ) → numbered item from (suc k) ≡ numbered item from k ++ (item (from + k) ∷ [])
+numbered-suc item from zero = ap (λ (i : ℕ). item i ∷ []) (omega arith)
+numbered-suc {A} item from (suc k) =
+    let e : suc from + k ≡ from + suc k = omega arith in
+    ap (λ (l : List A). item from ∷ l) (numbered-suc item (suc from) k)
+    ∙ ap (λ (i : ℕ). item from ∷ (numbered item (suc from) k ++ (item i ∷ []))) e
+
+-- the first k + 1 items
+pub numbered-next : {A : Type 0} (item : ℕ → A) (k : ℕ) → numbered item 0 (k + 1) ≡ numbered item 0 k ++ (item k ∷ [])
+numbered-next {A} item k =
+    ap (numbered item 0) (add-one k) ∙ numbered-suc item 0 k ∙ ap (λ (i : ℕ). numbered item 0 k ++ (item i ∷ [])) (zero-add k)

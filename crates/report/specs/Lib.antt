@@ -1,0 +1,2 @@
+-- What the program writes, as lists of bytes.
+pub mod Report
