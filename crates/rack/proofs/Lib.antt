@@ -6,3 +6,4 @@ pub mod Steps
 pub mod Place
 pub mod Loaded
 pub mod Joining
+pub mod Sorting
