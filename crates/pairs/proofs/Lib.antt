@@ -1,4 +1,4 @@
 -- Laws that belong to no one function.
-pub mod Walk
+pub mod Common
 pub mod Entering
 pub mod Laws

@@ -1,7 +1,6 @@
 -- The list of pairs of rows of a working table: `mates` has the pairs, `due` the grades at which they are due, the first `pairs` of each.
 use Prim.Native.Nat.{ℕ, zero, suc, _+_, _*_, _≤_, _<_}
 use mathlib.Core.Path.{_≡_}
-use mathlib.Core.Bool.{Bool, true, false}
 use mathlib.Core.List.{List}
 use lib.ListN.{length, getD}
 use Rattle.terms.specs.Load.{Fits, grade}
@@ -53,8 +52,3 @@ pub record Enterable (bound : ℕ) (sizes table : List ℕ) (n : ℕ) : Type 0 w
   pub rows : n * 24 ≤ length table
   pub most : n ≤ 256
   pub bounded : bound ≤ 1000
-
--- the test r decides P
-pub record Decides (P : Type 0) (r : Bool) : Type 0 where
-  pub holds : r ≡ true → P
-  pub fails : r ≡ false → P → ⊥

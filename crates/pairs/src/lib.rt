@@ -1,11 +1,13 @@
 // The list of pairs: which pairs of rows of the working table are to be joined, and at which grade.
+use loads::left_of;
 ghost use mathlib.Core.Path.{_≡_};
 ghost use Prim.Native.Nat.{ℕ, _+_, _*_, _<_, _≤_, max};
 ghost use lib.ListN.{length, getD};
+ghost use Rattle.terms.specs.Decides.{Decides};
 ghost use Rattle.terms.specs.Load.{Fits, grade};
 ghost use Rattle.terms.specs.Flat.{leftAt};
 ghost use Rattle.laws.specs.Load.{join, UpTo};
-ghost use Rattle.pairs.specs.Pairs.{common, PairList, NextAbove, Small, Enterable, Decides};
+ghost use Rattle.pairs.specs.Pairs.{common, PairList, NextAbove, Small, Enterable};
 ghost use Rattle.pairs.specs.Candidates.{Picked, Sifted};
 
 fn larger(a: u16, b: u16) -> u16
@@ -49,9 +51,7 @@ fn pair_grade(sizes: &[u16], table: &[u16], i: usize, j: usize) -> u32
     requires { ⌜ Small (now sizes) × ((i + 1) * 24 ≤ length (now table)) × ((j + 1) * 24 ≤ length (now table)) × UpTo 1000 (leftAt 12 (now table) i) × UpTo 1000 (leftAt 12 (now table) j) ⌝ }
     ensures { λ r. ⌜ r ≡ grade (now (sizes .entry)) (common (now (table .entry)) i j) ⌝ }
 {
-    let a = i * 24;
-    let b = j * 24;
-    common_grade(sizes, &table[a..a + 12], &table[b..b + 12])
+    common_grade(sizes, left_of(12, table, i), left_of(12, table, j))
 }
 
 // Whether the head of row p fits in the least load that holds the heads of rows i and j.
@@ -59,10 +59,11 @@ fn pair_covered(table: &[u16], p: usize, i: usize, j: usize) -> bool
     requires { ⌜ ((p + 1) * 24 ≤ length (now table)) × ((i + 1) * 24 ≤ length (now table)) × ((j + 1) * 24 ≤ length (now table)) ⌝ }
     ensures { λ r. ⌜ Decides (Fits (leftAt 12 (now (table .entry)) p) (common (now (table .entry)) i j)) r ⌝ }
 {
-    let h = p * 24;
-    let a = i * 24;
-    let b = j * 24;
-    covers(&table[h..h + 12], &table[a..a + 12], &table[b..b + 12])
+    covers(
+        left_of(12, table, p),
+        left_of(12, table, i),
+        left_of(12, table, j),
+    )
 }
 
 // The rows below j whose least load with row j is within the bound, with the grades.

@@ -6,7 +6,8 @@ use borrow.Author.Needs.{needs}
 use lib.ListN.{getD, drop}
 use Rattle.terms.specs.Load.{grade}
 use Rattle.laws.specs.Load.{join}
-use Rattle.pairs.proofs.Walk.{sum-turn, grade-done}
+use Rattle.laws.specs.Walk.{grade-done}
+use Rattle.pairs.proofs.Common.{sum-turn}
 use Rattle.pairs.proofs.common_grade.Statement.{statement}
 use Rattle.pairs.proofs.common_grade.Tie as tie
 

@@ -1,25 +1,24 @@
--- p fits exactly where no count so far was too large and the rest fits.
-use Prim.Native.Nat.{_≤_, _-_, _+_}
-use mathlib.Core.Path.{_≡_, refl, sym, _∙_}
-use mathlib.Core.Bool.{true, false≢true}
-use mathlib.Core.Logic.{_↔_, ⊎-elim}
+-- The flag says whether the counts so far were none too large.
+use Prim.Native.Nat.{_≤_, _-_}
+use mathlib.Core.Path.{_≡_, refl}
+use mathlib.Core.Logic.{⊎-elim}
 use native.Mathlib.Omega.{arith}
 use borrow.Author.Needs.{needs}
-use lib.ListN.{drop, getD}
-use Rattle.terms.specs.Load.{Fits}
+use lib.ListN.{length, getD}
 use Rattle.laws.specs.Load.{join}
-use Rattle.pairs.proofs.Walk.{covers-next, covers-done, flag-kept, flag-lost}
+use Rattle.laws.specs.Walk.{FitsSoFar, fits-on, fits-off, fits-done}
+use Rattle.pairs.proofs.Common.{long-join, join-at}
 use Rattle.pairs.proofs.covers.Statement.{statement}
 use Rattle.pairs.proofs.covers.Tie as tie
 
 abbrev Inv-loop : tie.InvT-loop
-Inv-loop p a b ok₀ i₀ ok i = (i ≤ 12) × (Fits p (join a b) ↔ ((ok ≡ true) × Fits (drop i p) (drop i (join a b))))
+Inv-loop p a b ok₀ i₀ ok i = (i ≤ 12) × FitsSoFar p (join a b) ok i
 
 abbrev μ-loop : tie.MeasureT-loop
 μ-loop p a b ok₀ i₀ ok i = 12 - i
 
 loop-holds : tie.Need-loop-holds Inv-loop μ-loop
-loop-holds c = (omega arith, (λ w. (refl, w), λ w. w .1))
+loop-holds c = (omega arith, record { onward = λ e w. w; back = λ w. (refl, w) })
 
 mul-larger : tie.Need-mul-larger Inv-loop μ-loop
 mul-larger c = search needs
@@ -53,20 +52,18 @@ loop-again c =
     let s = c .before .before .before .before .before .before .before .before .before .before in
     let loop = c .before .before .before .before .before .before .loop in
     let most = c .before .before .larger in
-    let a = s .args .a .now in
-    let b = s .args .b .now in
     let p = s .args .p .now in
-    let next : Fits (drop (loop .i) p) (drop (loop .i) (join a b)) ↔ ((getD p (loop .i) 0 ≤ most .result) × Fits (drop (loop .i + 1) p) (drop (loop .i + 1) (join a b))) = covers-next a b (s .pre .1) (s .pre .2) p (s .pre .0) (loop .i) (most .result) (omega arith) (most .ensures) in
-    (omega arith, ⊎-elim (λ w. flag-lost (loop .ok) (c .if1 .ok) (loop .inv .1) next (λ l. omega arith) (w .1)) (λ w. flag-kept (loop .ok) (c .if1 .ok) (loop .inv .1) next (omega arith) (w .1)) (c .if1 .came))
+    let j = join (s .args .a .now) (s .args .b .now) in
+    let long : length j ≡ 12 = long-join (s .args .a .now) (s .args .b .now) (s .pre .1) (s .pre .2) in
+    let here : getD j (loop .i) 0 ≡ most .result = join-at (s .args .a .now) (s .args .b .now) (s .pre .1) (s .pre .2) (loop .i) (most .result) (omega arith) (most .ensures) in
+    (omega arith, ⊎-elim (λ w. rw (w .1) (fits-off p j (loop .i) (omega arith) (omega arith) (loop .ok) (loop .inv .1) (omega arith))) (λ w. rw (w .1) (fits-on p j (loop .i) (omega arith) (omega arith) (loop .ok) (loop .inv .1) (omega arith))) (c .if1 .came))
 
 returns : tie.Need-returns Inv-loop μ-loop
 returns c =
     let s = c .before .before .before .before .before in
     let loop = c .before .loop in
-    record {
-      holds = λ e. loop .inv .1 .1 (e, covers-done (s .args .a .now) (s .args .b .now) (s .pre .1) (s .pre .2) (s .args .p .now) (s .pre .0) (loop .i) (omega arith));
-      fails = λ e w. false≢true (sym e ∙ loop .inv .1 .0 w .0);
-    }
+    let j = join (s .args .a .now) (s .args .b .now) in
+    fits-done (s .args .p .now) j (loop .ok) (loop .i) (omega arith) (omega (arith, long-join (s .args .a .now) (s .args .b .now) (s .pre .1) (s .pre .2))) (loop .inv .1)
 
 pub covers-spec : {M : Type 1} → statement M
 covers-spec =

@@ -10,7 +10,7 @@ use Rattle.terms.specs.Load.{Fits}
 use Rattle.terms.specs.Flat.{leftAt}
 use Rattle.pairs.specs.Pairs.{common}
 use Rattle.pairs.specs.Candidates.{Sifted}
-use Rattle.pairs.proofs.Walk.{own-cover}
+use Rattle.pairs.proofs.Common.{own-cover}
 use Rattle.pairs.proofs.Entering.{Unread, unread-put, unread-past, sifted-start, sifted-drop, sifted-keep}
 use Rattle.pairs.proofs.sift.Statement.{statement}
 use Rattle.pairs.proofs.sift.Tie as tie
