@@ -48,7 +48,7 @@ pub fn covers(p: &[u16], a: &[u16], b: &[u16]) -> bool
 
 // The grade of the least load that holds the heads of rows i and j.
 fn pair_grade(sizes: &[u16], table: &[u16], i: usize, j: usize) -> u32
-    requires { ⌜ Small (now sizes) × ((i + 1) * 24 ≤ length (now table)) × ((j + 1) * 24 ≤ length (now table)) × UpTo 1000 (leftAt 12 (now table) i) × UpTo 1000 (leftAt 12 (now table) j) ⌝ }
+    requires { ⌜ Small (now sizes) × (i ≤ j) × ((j + 1) * 24 ≤ length (now table)) × ((r : ℕ) → r ≤ j → UpTo 1000 (leftAt 12 (now table) r)) ⌝ }
     ensures { λ r. ⌜ r ≡ grade (now (sizes .entry)) (common (now (table .entry)) i j) ⌝ }
 {
     common_grade(sizes, left_of(12, table, i), left_of(12, table, j))

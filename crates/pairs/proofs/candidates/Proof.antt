@@ -24,7 +24,7 @@ loop-holds c =
 pair-grade-requires : tie.Need-pair-grade-requires Inv-loop μ-loop
 pair-grade-requires c κs =
     let s = c .before .before .before .before .before .before in
-    (s .pre .0 .small-sizes, omega arith, omega arith, s .pre .0 .small-heads (c .before .loop .i) (omega arith), s .pre .0 .small-heads (s .args .j) (omega arith))
+    (s .pre .0 .small-sizes, omega arith, omega arith, λ r h. s .pre .0 .small-heads r (omega arith))
 
 cast-cand : tie.Need-cast-cand Inv-loop μ-loop
 cast-cand c = search needs

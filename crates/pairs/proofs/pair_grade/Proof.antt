@@ -1,4 +1,5 @@
 -- The parts that are lent are the heads.
+use native.Mathlib.Omega.{arith}
 use borrow.Author.Needs.{needs}
 use Rattle.pairs.proofs.pair_grade.Statement.{statement}
 use Rattle.pairs.proofs.pair_grade.Tie as tie
@@ -14,7 +15,7 @@ common-grade-requires c κs =
     let s = c .before .before .before .before in
     let i = c .before .left-of .ensures in
     let j = c .left-of2 .ensures in
-    (s .pre .0, record { long = i .1; up-to = rw (i .0) (s .pre .3) }, record { long = j .1; up-to = rw (j .0) (s .pre .4) })
+    (s .pre .0, record { long = i .1; up-to = rw (i .0) (s .pre .3 (s .args .i) (s .pre .1)) }, record { long = j .1; up-to = rw (j .0) (s .pre .3 (s .args .j) (omega arith)) })
 
 returns : tie.Need-returns
 returns c = rw (c .before .before .left-of .ensures .0, c .before .left-of2 .ensures .0) at (c .common-grade .ensures)
