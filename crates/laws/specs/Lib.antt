@@ -7,5 +7,6 @@ pub mod Decides
 pub mod Walk
 pub mod Fill
 pub mod Flat
+pub mod Laid
 pub mod Exchange
 pub mod Machine

@@ -13,7 +13,7 @@ use lib.ListN.{length, getD, take, drop, replicate, length-append, length-replic
 use lib.Seq.{getD-append-add, length-take-le}
 use lib.IntN.{ℤ}
 use Rattle.terms.specs.Load.{zeros, grade, withoutOne}
-use Rattle.terms.specs.Limits.{All, SizeFine, CostFine, most-kinds}
+use Rattle.terms.specs.Limits.{most-kinds}
 use Rattle.terms.specs.Order.{Before}
 use Rattle.terms.specs.Swaps.{_∈_, Swap, exchange, Step, Reaches, Reaches.stay, Reaches.forth, Reaches.back}
 use Rattle.terms.specs.Table.{FirstReached, Settled, Head}
@@ -21,7 +21,7 @@ use Rattle.laws.specs.Load.{all-map, fits-zeros, fits-length, length-less}
 use Rattle.bridge.specs.Carry.{mem-map, mem-unmap}
 use Rattle.bridge.specs.Rows.{IsSheet}
 use Rattle.bridge.specs.Regular.{IsKit, Regular, reaches-regular}
-use Rattle.padding.specs.Widen.{widen, widenSwap, widenSizes, widenCosts}
+use Rattle.padding.specs.Widen.{FineKit, widen, widenSwap, widenSizes, widenCosts}
 use Rattle.padding.specs.Beside.{fits-beside, fits-front, exchange-beside, grade-beside, grade-none, cost-beside, lex-beside, lex-front, without-front, without-beside, zero-or-part, zeros-none}
 
 -- the counts of the further kinds
@@ -30,15 +30,6 @@ Further n z = length z ≡ most-kinds - n
 
 pub none-further : (n : ℕ) → Further n (zeros (most-kinds - n))
 none-further n = length-replicate (most-kinds - n) 0
-
--- what is known of a kit and its sheet once they are tested
-pub record Tested (n : ℕ) (sizes : List ℕ) (costs : List ℤ) (sheet : List Swap) : Type 0 where
-  pub few : n ≤ most-kinds
-  pub sized : length sizes ≡ n
-  pub costed : length costs ≡ n
-  pub sizes-fine : All SizeFine sizes
-  pub costs-fine : All CostFine costs
-  pub swaps : IsSheet n sizes sheet
 
 pub length-wide : (n : ℕ) → n ≤ most-kinds → (x : List ℕ) → length x ≡ n → length (widen n x) ≡ most-kinds
 length-wide n few x e = omega (arith, length-append x (zeros (most-kinds - n)), none-further n)
@@ -65,23 +56,23 @@ module _ (n : ℕ) (h t x z : List ℕ) (p : length h ≡ n) (q : length t ≡ n
 
 -- ---- what is reached
 
-module _ {n : ℕ} {sizes : List ℕ} {costs : List ℤ} {sheet : List Swap} (given : Tested n sizes costs sheet) where
+module _ {n : ℕ} {sizes : List ℕ} {costs : List ℤ} {sheet : List Swap} (fine : FineKit n sizes costs) (swaps : IsSheet n sizes sheet) where
   abbrev WideReach : List ℕ → List ℕ → Type 0
   WideReach = Reaches (map (widenSwap n) sheet)
 
   kit : IsKit n sizes
-  kit = record { of-sizes = given .sized; from-one = all-map (λ s h. h .0) sizes (given .sizes-fine) }
+  kit = record { of-sizes = fine .sized; from-one = all-map (λ s h. h .0) sizes (fine .sizes-fine) }
 
   pub reg : Regular n sizes (Reaches sheet)
-  reg = reaches-regular costs kit sheet (given .swaps)
+  reg = reaches-regular costs kit sheet swaps
 
   pub reach-wide : {x y : List ℕ} (z : List ℕ) → Further n z → Reaches sheet x y → WideReach (x ++ z) (y ++ z)
   reach-wide z k (stay e) = stay (ap (λ (l : List ℕ). l ++ z) e)
   reach-wide z k (forth {y = y} s m r st) =
-      let w = given .swaps s m in
+      let w = swaps s m in
       forth (widenSwap n s) (mem-map (widenSwap n) sheet m) (reach-wide z k r) (step-wide n (s .left) (s .right) y z (w .of-left) (w .of-right) k st)
   reach-wide z k (back {y = y} s m r st) =
-      let w = given .swaps s m in
+      let w = swaps s m in
       back (widenSwap n s) (mem-map (widenSwap n) sheet m) (reach-wide z k r) (step-wide n (s .right) (s .left) y z (w .of-right) (w .of-left) k st)
 
   -- w is some y with z beside it, and x reaches y
@@ -97,14 +88,14 @@ module _ {n : ℕ} {sizes : List ℕ} {costs : List ℤ} {sheet : List Swap} (gi
     where
       go : Beside x z y → (t : Swap) × (t ∈ sheet) × (widenSwap n t ≡ s) → Beside x z w
       go v t =
-          let g = given .swaps (t .0) (t .1) in
+          let g = swaps (t .0) (t .1) in
           let o = beside-step e k v (t .0 .left) (t .0 .right) (g .of-left) (g .of-right) (rw (← (t .2)) at st) in
           (exchange (t .0 .left) (t .0 .right) (v .0), forth (t .0) (t .1) (v .1) (o .0), o .1)
   reach-narrow {x} {w} z e k (back {y = y} s m r st) = go (reach-narrow z e k r) (mem-unmap (widenSwap n) sheet m)
     where
       go : Beside x z y → (t : Swap) × (t ∈ sheet) × (widenSwap n t ≡ s) → Beside x z w
       go v t =
-          let g = given .swaps (t .0) (t .1) in
+          let g = swaps (t .0) (t .1) in
           let o = beside-step e k v (t .0 .right) (t .0 .left) (g .of-right) (g .of-left) (rw (← (t .2)) at st) in
           (exchange (t .0 .right) (t .0 .left) (v .0), back (t .0) (t .1) (v .1) (o .0), o .1)
 
@@ -112,15 +103,15 @@ module _ {n : ℕ} {sizes : List ℕ} {costs : List ℤ} {sheet : List Swap} (gi
 
   before-wide : (x y z : List ℕ) → length x ≡ n → length y ≡ n → Before costs x y → Before (widenCosts n costs) (x ++ z) (y ++ z)
   before-wide x y z d e (inl l) =
-      inl (rw (cost-beside costs (most-kinds - n) x z (d ∙ sym (given .costed)), cost-beside costs (most-kinds - n) y z (e ∙ sym (given .costed))) l)
+      inl (rw (cost-beside costs (most-kinds - n) x z (d ∙ sym (fine .costed)), cost-beside costs (most-kinds - n) y z (e ∙ sym (fine .costed))) l)
   before-wide x y z d e (inr p) =
-      inr (cost-beside costs (most-kinds - n) x z (d ∙ sym (given .costed)) ∙ p .0 ∙ sym (cost-beside costs (most-kinds - n) y z (e ∙ sym (given .costed))), lex-beside x y z (p .1))
+      inr (cost-beside costs (most-kinds - n) x z (d ∙ sym (fine .costed)) ∙ p .0 ∙ sym (cost-beside costs (most-kinds - n) y z (e ∙ sym (fine .costed))), lex-beside x y z (p .1))
 
   before-narrow : (x y z : List ℕ) → length x ≡ n → length y ≡ n → Before (widenCosts n costs) (x ++ z) (y ++ z) → Before costs x y
   before-narrow x y z d e (inl l) =
-      inl (rw (cost-beside costs (most-kinds - n) x z (d ∙ sym (given .costed)), cost-beside costs (most-kinds - n) y z (e ∙ sym (given .costed))) at l)
+      inl (rw (cost-beside costs (most-kinds - n) x z (d ∙ sym (fine .costed)), cost-beside costs (most-kinds - n) y z (e ∙ sym (fine .costed))) at l)
   before-narrow x y z d e (inr p) =
-      inr (sym (cost-beside costs (most-kinds - n) x z (d ∙ sym (given .costed))) ∙ p .0 ∙ cost-beside costs (most-kinds - n) y z (e ∙ sym (given .costed)), lex-front x y z (d ∙ sym e) (p .1))
+      inr (sym (cost-beside costs (most-kinds - n) x z (d ∙ sym (fine .costed))) ∙ p .0 ∙ cost-beside costs (most-kinds - n) y z (e ∙ sym (fine .costed)), lex-front x y z (d ∙ sym e) (p .1))
 
   pub first-wide : {x y : List ℕ} (z : List ℕ) → length x ≡ n → Further n z → FirstReached costs (Reaches sheet) x y → FirstReached (widenCosts n costs) WideReach (x ++ z) (y ++ z)
   first-wide {x} {y} z e k f = record {
@@ -167,8 +158,8 @@ module _ {n : ℕ} {sizes : List ℕ} {costs : List ℤ} {sheet : List Swap} (gi
 
     pub head-wide : {h : List ℕ} → HeadHere h → HeadWide (widen n h)
     head-wide {h} w = record {
-      counts = length-wide n (given .few) h (w .counts);
-      bounded = omega (arith, grade-wide n sizes h (given .sized) (w .counts), w .bounded);
+      counts = length-wide n (fine .few) h (w .counts);
+      bounded = omega (arith, grade-wide n sizes h (fine .sized) (w .counts), w .bounded);
       unsettled = λ s. w .unsettled (first-narrow (zeros (most-kinds - n)) (w .counts) (none-further n) s);
       parts = parts-wide w;
     }
@@ -186,7 +177,7 @@ module _ {n : ℕ} {sizes : List ℕ} {costs : List ℤ} {sheet : List Swap} (gi
     pub head-back : {h : List ℕ} → length h ≡ n → HeadWide (widen n h) → HeadHere h
     head-back {h} e w = record {
       counts = e;
-      bounded = omega (arith, grade-wide n sizes h (given .sized) e, w .bounded);
+      bounded = omega (arith, grade-wide n sizes h (fine .sized) e, w .bounded);
       unsettled = λ s. w .unsettled (first-wide (zeros (most-kinds - n)) e (none-further n) s);
       parts = parts-narrow h e w;
     }
@@ -206,7 +197,7 @@ module _ {n : ℕ} {sizes : List ℕ} {costs : List ℤ} {sheet : List Swap} (gi
         let g : List ℕ = take n h in
         let z : List ℕ = drop n h in
         let whole : g ++ z ≡ h = take-append-drop n h in
-        let e : length g ≡ n = length-take-le n h (omega (arith, w .counts, given .few)) in
+        let e : length g ≡ n = length-take-le n h (omega (arith, w .counts, fine .few)) in
         let k : Further n z = length-drop n h ∙ ap (λ (l : ℕ). l - n) (w .counts) in
         let v : HeadWide (g ++ z) = rw whole w in
         let none : z ≡ zeros (most-kinds - n) = none-beside g z e k v in

@@ -1,4 +1,5 @@
 -- At equal grade the order by weight is the cost order, and what only compares loads of one grade does not tell them apart.
+--     weight-whole       a weight is the cost and 1,000,000 for each of the size
 --     weight-room        a weight is at most 1,001,000,000
 --     before-weigh       the two orders agree
 --     finished-same      a table finished by one of two orders that agree is finished by the other
@@ -26,11 +27,17 @@ above (pos k) a b e l = refl
 above (negsuc k) a b e l = absurd (omega arith)
 
 module _ (s : ℕ) (c : ℤ) (size : SizeFine s) (fine : CostFine c) where
+  weight-above : down (c +ℤ pos (1000000 * s)) ≡ 0
+  weight-above =
+      above (c +ℤ pos (1000000 * s)) (down c) (up c + 1000000 * s) (omega (arith, plus-reads c (pos (1000000 * s)))) (omega (arith, natAbs-reads c))
+
   -- a weight, as `omega` reads it
   pub weight-reads : weight s c + down c ≡ up c + 1000000 * s
-  weight-reads =
-      let e = plus-reads c (pos (1000000 * s)) in
-      omega (arith, e, above (c +ℤ pos (1000000 * s)) (down c) (up c + 1000000 * s) (omega (arith, e)) (omega (arith, natAbs-reads c)))
+  weight-reads = omega (arith, plus-reads c (pos (1000000 * s)), weight-above)
+
+  -- nothing is cut off
+  pub weight-whole : c +ℤ pos (1000000 * s) ≡ pos (weight s c)
+  weight-whole = same (c +ℤ pos (1000000 * s)) (pos (weight s c)) (omega (arith, weight-above))
 
   pub weight-room : weight s c ≤ 1001000000
   weight-room = omega (arith, weight-reads, natAbs-reads c)

@@ -1,13 +1,22 @@
 -- How a kit of n kinds is made one of 12, and what its parts weigh. Nothing is proved here.
-use Prim.Native.Nat.{ℕ, _-_, _*_}
+use Prim.Native.Nat.{ℕ, _-_, _*_, _≤_}
+use mathlib.Core.Path.{_≡_}
 use mathlib.Core.List.{List, [], _∷_, _++_}
-use lib.ListN.{replicate}
+use lib.ListN.{length, take, replicate}
 use lib.IntN.{ℤ, pos, _+ℤ_}
 use Rattle.terms.specs.Load.{zeros}
-use Rattle.terms.specs.Limits.{most-kinds, most-cost}
+use Rattle.terms.specs.Limits.{All, SizeFine, CostFine, most-kinds, most-cost}
 use Rattle.terms.specs.Swaps.{Swap}
 use Rattle.terms.specs.Table.{Row}
 use Rattle.laws.specs.Signed.{up}
+
+-- a kit of n kinds that has passed the tests
+pub record FineKit (n : ℕ) (sizes : List ℕ) (costs : List ℤ) : Type 0 where
+  pub few : n ≤ most-kinds
+  pub sized : length sizes ≡ n
+  pub costed : length costs ≡ n
+  pub sizes-fine : All SizeFine sizes
+  pub costs-fine : All CostFine costs
 
 -- a load of n counts, with no part of the further kinds
 abbrev pub widen : ℕ → List ℕ → List ℕ
@@ -39,3 +48,10 @@ weigh (s ∷ sizes) (c ∷ costs) = weight s c ∷ weigh sizes costs
 -- the weights of the 12 kinds
 abbrev pub weights : ℕ → List ℕ → List ℤ → List ℕ
 weights n sizes costs = weigh (widenSizes n sizes) (widenCosts n costs)
+
+-- a load as one of m counts: of more only the first m, and after fewer 0
+abbrev pub resize : ℕ → List ℕ → List ℕ
+resize m x = take m x ++ zeros (m - length x)
+
+abbrev pub resizeRow : ℕ → Row → Row
+resizeRow m a = record { head = resize m (a .head); tail = resize m (a .tail) }
