@@ -7,11 +7,13 @@ from .kit import BOUND, COST, KINDS, LOADS, ROWS, SIZE, SWAPS, Kit, Refused, fit
 LISTED = 40_000  # up to so many loads the table comes from listing them
 
 
-def finished(kit, swaps):
-    """The finished table: by listing where that is possible, else by completion."""
-    if table.how_many(kit.sizes, kit.bound) <= LISTED:
-        return table.finished(kit, swaps)
-    return completion.finished(kit, swaps)
+def finished(kit, swaps, room):
+    """The finished table, None where it has more rows than the room: by listing where that is possible, else by
+    completion."""
+    if table.how_many(kit.sizes, kit.bound) > LISTED:
+        return completion.finished(kit, swaps, room)
+    rows = table.finished(kit, swaps)
+    return rows if len(rows) <= room else None
 
 
 def need(holds, number, place=0):
@@ -42,8 +44,8 @@ def complete(kinds, bound, sizes, costs, swaps, rules):
             need(kit.grade(left) == kit.grade(right), 7, number)
     except Refused as refused:
         return refused.number, refused.place, list(rules)
-    rows = finished(kit, pairs(kinds, swaps))
-    if len(rows) * 2 * kinds > len(rules):
+    rows = finished(kit, pairs(kinds, swaps), len(rules) // (2 * kinds))
+    if rows is None:
         return 8, 0, [0] * len(rules)
     flat = [count for head, tail in rows for count in head + tail]
     return 0, len(rows), flat + [0] * (len(rules) - len(flat))

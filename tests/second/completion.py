@@ -7,16 +7,16 @@ import heapq
 BITS = 11
 
 
-def finished(kit, swaps, most=None):
-    """The rows of the finished table; with `most`, None as soon as there are more (a row once found stays)."""
+def finished(kit, swaps, room):
+    """The rows of the finished table; None as soon as there are more than the room (a row once found stays)."""
     work = Completion(kit)
     for left, right in swaps:
         if kit.grade(left) <= kit.bound:
             heapq.heappush(work.waiting, (kit.grade(left), work.pack(left), work.pack(right)))
     while work.waiting:
-        grade, one, other = heapq.heappop(work.waiting)
+        _, one, other = heapq.heappop(work.waiting)
         if work.join(one, other):
-            if most is not None and len(work.heads) > most:
+            if len(work.heads) > room:
                 return None
             work.pair_last()
     return work.rows()

@@ -8,8 +8,8 @@ def kitsettle(text):
     try:
         found = sheet.read(text)
         kit = found.kit()
-        rows = calls.finished(kit, found.swaps)
-        if len(rows) > ROWS:
+        rows = calls.finished(kit, found.swaps, ROWS)
+        if rows is None:
             raise Refused(8, 0)
     except Refused as refused:
         return line("refused", refused.number, refused.place)
