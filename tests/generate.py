@@ -447,14 +447,24 @@ def improper_row(rng, kit):
     return rng.choice(choices + ([tuple(sorted(above, key=kit.key, reverse=True))] if all(above) else []))
 
 
-def settle_call(seed):
-    """Arguments of settle: a table of proper rows, finished or not, with unused rows after them, sometimes spoiled."""
-    rng = random.Random(f"settle {seed}")
+def make_table(rng, seed):
+    """A kit and a table of proper rows: a finished one, any rows, or small rows that are applied many times."""
+    style = rng.randrange(10)
+    if style < 4:
+        kinds, step = rng.randint(2, 4), rng.randint(2, 6)
+        kit = Kit([rng.randint(1, 2) for _ in range(kinds)], make_costs(rng, [1] * kinds), rng.randint(30, 120))
+        low = Kit(kit.sizes, kit.costs, step)
+        return kit, [row for row in (proper_row(rng, low) for _ in range(rng.randint(1, 5))) if row]
     job = plain(f"settle {seed}", rng.choice((20, 100, 400)))
-    kit = job.kit
-    used = table.finished(kit, job.swaps)[:ROWS]
-    if rng.random() < 0.7:
-        used = [row for row in (proper_row(rng, kit) for _ in range(rng.randint(0, 9))) if row]
+    if style < 7:
+        return job.kit, [row for row in (proper_row(rng, job.kit) for _ in range(rng.randint(0, 9))) if row]
+    return job.kit, table.finished(job.kit, job.swaps)[:ROWS]
+
+
+def settle_call(seed):
+    """Arguments of settle: a table of proper rows, with unused rows after them, sometimes spoiled."""
+    rng = random.Random(f"settle {seed}")
+    kit, used = make_table(rng, seed)
     if rng.random() < 0.25:
         used.insert(rng.randint(0, len(used)), improper_row(rng, kit))
         used = used[:ROWS]
