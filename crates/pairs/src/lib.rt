@@ -10,7 +10,7 @@ ghost use Rattle.laws.specs.Load.{join, UpTo};
 ghost use Rattle.pairs.specs.Pairs.{common, PairList, NextAbove, Small, Enterable};
 ghost use Rattle.pairs.specs.Candidates.{Picked, Sifted};
 
-fn larger(a: u16, b: u16) -> u16
+pub fn larger(a: u16, b: u16) -> u16
     ensures { λ r. ⌜ r ≡ max a b ⌝ }
 {
     if a < b { b } else { a }
