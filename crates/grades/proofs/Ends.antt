@@ -5,8 +5,7 @@ use mathlib.Core.Path.{_≡_, refl, ap, ap₂, sym, subst, _∙_}
 use mathlib.Core.Logic.{⊎-elim}
 use mathlib.Core.List.{List, [], _∷_, _++_, map, List·Memᴰ·append-cases}
 use native.Mathlib.Omega.{arith}
-use native.Mathlib.Numerals.{add-one}
-use lib.ListN.{length, getD, set, length-set, length-append}
+use lib.ListN.{length, getD, set, length-append}
 use lib.Seq.{getD-append-add}
 use Rattle.terms.specs.Load.{grade}
 use Rattle.terms.specs.Swaps.{_∈_}

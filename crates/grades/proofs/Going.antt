@@ -1,7 +1,7 @@
 -- What the loops of one grade keep.
 -- Assumes nothing.
-use Prim.Native.Nat.{ℕ, suc, _+_, _*_, _≤_, _<_}
-use mathlib.Core.Path.{_≡_, refl, ap, sym, subst, _∙_}
+use Prim.Native.Nat.{ℕ, _+_, _*_, _≤_, _<_}
+use mathlib.Core.Path.{_≡_, refl, sym, subst, _∙_}
 use mathlib.Core.Logic.{⊎-elim}
 use mathlib.Core.List.{List, _++_, List·Memᴰ·append-cases}
 use native.Mathlib.Omega.{arith}
@@ -16,11 +16,11 @@ use Rattle.rack.specs.Racked.{Sound, Loaded}
 use Rattle.bridge.specs.Instance.{Load}
 use Rattle.bridge.specs.Rows.{IsSwap}
 use Rattle.growth.specs.Setting.{KitOf, RelOf, alike-of, numbered-length, item-at}
-use Rattle.growth.specs.Grade.{Grows, grows-none, grows-map, SwapsJoined, PairsJoined}
+use Rattle.growth.specs.Grade.{Grows, grows-none, grows-map, SwapsJoined}
 use Rattle.growth.specs.Turns.{swap-turn, swap-skip}
 use Rattle.growth.specs.End.{racked-of}
 use Rattle.growth.specs.Finish.{stamp-grade, grade-stamp}
-use Rattle.growth.specs.State.{JoinedIn, Working, Within, SwapsDone, PairsDone}
+use Rattle.growth.specs.State.{JoinedIn, Within, SwapsDone}
 
 module _ {weights swaps stamps : List ℕ} {count g : ℕ} where
   -- the grade goes on with the rows that were added

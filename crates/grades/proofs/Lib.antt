@@ -4,3 +4,5 @@ pub mod Going
 pub mod Counts
 pub mod Listed
 pub mod Ends
+pub mod Graded
+pub mod Whole

@@ -1,6 +1,6 @@
 -- What the loop over the listed pairs of a grade keeps.
 -- Assumes nothing.
-use Prim.Native.Nat.{ℕ, suc, _+_, _*_, _/_, _%_, _≤_, _<_}
+use Prim.Native.Nat.{ℕ, _+_, _*_, _/_, _%_, _≤_, _<_}
 use mathlib.Core.Path.{_≡_, refl, ap, ap₂, sym, subst, _∙_}
 use mathlib.Core.List.{List, _++_}
 use native.Mathlib.Omega.{arith}
@@ -14,7 +14,7 @@ use Rattle.theory.specs.Kit.{Kit}
 use Rattle.theory.specs.Rows.{Row as RowOf}
 use Rattle.theory.specs.Index.{at-mem}
 use Rattle.theory.specs.Complete.{left-side, right-side, pair-rel}
-use Rattle.rack.specs.Racked.{Sound, Loaded}
+use Rattle.rack.specs.Racked.{Loaded}
 use Rattle.pairs.specs.Pairs.{common}
 use Rattle.bridge.specs.Instance.{Load}
 use Rattle.bridge.specs.Rows.{plain}

@@ -10,7 +10,7 @@ ghost use Rattle.terms.specs.Flat.{leftAt, rightAt, tableOf};
 ghost use Rattle.laws.specs.Load.{join, UpTo};
 ghost use Rattle.rack.specs.Racked.{Loaded};
 ghost use Rattle.pairs.specs.Pairs.{PairList};
-ghost use Rattle.growth.specs.State.{JoinedIn, Within, SwapsDone, made, Listing, PairsDone, TailsSettled};
+ghost use Rattle.growth.specs.State.{JoinedIn, Working, AtGrade, Within, SwapsDone, made, Listing, PairsDone, TailsSettled, GradeDone, AllDone};
 
 // Two loads joined: where they do not meet there is a new row. The number of rows then.
 fn joined(weights: &[u32], table: &mut [u16], rows: usize, x: &mut [u16], y: &mut [u16]) -> usize
@@ -148,4 +148,96 @@ fn settle_tails(weights: &[u32], table: &mut [u16], base: usize, rows: usize)
         rack::settle_tail(weights, table, rows, r);
         r += 1;
     }
+}
+
+// How many rows there are, and how many pairs are listed.
+pub struct Grown {
+    pub rows: usize,
+    pub pairs: usize,
+}
+
+// Grade g: its swaps and its listed pairs joined, the new rows' tails settled, the new rows put in order and entered.
+fn one_grade(
+    sizes: &[u16],
+    weights: &[u32],
+    bound: usize,
+    swaps: &[u16],
+    stamps: &[u16],
+    count: usize,
+    g: usize,
+    table: &mut [u16],
+    rows: usize,
+    room: usize,
+    due: &mut [u16],
+    mates: &mut [u16],
+    pairs: usize,
+) -> Grown
+    requires { ⌜ ((w : Working bound (now sizes) (now weights) (now swaps) (now stamps) count) × AtGrade w g (now table) rows) × PairList bound (now sizes) (now table) rows (now due) (now mates) pairs ⌝ }
+    requires { ⌜ (1 ≤ g) × (g ≤ bound) × (rows ≤ room) × (room ≤ 256) × (room * 24 + 24 ≤ length (now table)) × (length (now due) ≡ 32640) × (length (now mates) ≡ 32640) ⌝ }
+    ensures { λ r. ⌜ GradeDone bound (now (sizes .entry)) (now (weights .entry)) (now (swaps .entry)) (now (stamps .entry)) count g (now (table .entry)) rows room (now (table .exit)) (now (due .exit)) (now (mates .exit)) (r .rows) (r .pairs) ⌝ }
+{
+    let swapped = join_swaps(weights, swaps, stamps, count, g, table, rows, room);
+    if room < swapped {
+        return Grown {
+            rows: swapped,
+            pairs,
+        };
+    }
+    let now = join_pairs(weights, due, mates, pairs, g, table, swapped, room);
+    if room < now {
+        return Grown { rows: now, pairs };
+    }
+    settle_tails(weights, table, rows, now);
+    rack::sort(table, rows, now);
+    let listed = pairs::enter_all(sizes, bound as u32, table, rows, now, due, mates, pairs);
+    Grown {
+        rows: now,
+        pairs: listed,
+    }
+}
+
+// Every grade up to the bound at which anything is due. The number of rows, more than the room where there is none for them all.
+pub fn all_grades(
+    sizes: &[u16],
+    weights: &[u32],
+    bound: usize,
+    swaps: &[u16],
+    stamps: &[u16],
+    count: usize,
+    table: &mut [u16],
+    room: usize,
+) -> usize
+    requires { ⌜ Working bound (now sizes) (now weights) (now swaps) (now stamps) count × (room ≤ 256) × (room * 24 + 24 ≤ length (now table)) ⌝ }
+    ensures { λ r. ⌜ AllDone bound (now (sizes .entry)) (now (weights .entry)) (now (swaps .entry)) count (now (table .entry)) room (now (table .exit)) r ⌝ }
+{
+    let mut due = [0u16; 32640];
+    let mut mates = [0u16; 32640];
+    let mut pairs = 0;
+    let mut rows = 0;
+    let mut g = pairs::next_above(stamps, count, 0, bound + 1);
+    while g <= bound {
+        let grown = one_grade(
+            sizes,
+            weights,
+            bound,
+            swaps,
+            stamps,
+            count,
+            g,
+            table,
+            rows,
+            room,
+            &mut due,
+            &mut mates,
+            pairs,
+        );
+        rows = grown.rows;
+        pairs = grown.pairs;
+        if room < rows {
+            return rows;
+        }
+        let limit = pairs::next_above(&due, pairs, g, bound + 1);
+        g = pairs::next_above(stamps, count, g, limit);
+    }
+    rows
 }

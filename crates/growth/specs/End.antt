@@ -1,14 +1,13 @@
 -- The end of a grade, in the theory: with the swaps and the listed pairs of the grade joined and the tails settled, the table is right up to that grade.
 -- Assumes nothing.
 use Prim.Native.Nat.{ℕ, suc, _+_, _*_, _≤_, _<_}
-use mathlib.Core.Path.{_≡_, refl, ap, ap₂, sym, subst, _∙_}
+use mathlib.Core.Path.{_≡_, ap₂, sym, subst}
 use mathlib.Core.List.{List, _++_}
 use native.Mathlib.Omega.{arith}
 use lib.ListN.{length, getD}
 use Rattle.terms.specs.Load.{grade, Fits}
 use Rattle.terms.specs.Swaps.{_∈_}
-use Rattle.terms.specs.Table.{Row}
-use Rattle.terms.specs.Flat.{leftAt, rowAt, tableOf}
+use Rattle.terms.specs.Flat.{leftAt, tableOf}
 use Rattle.laws.specs.Load.{join}
 use Rattle.theory.specs.Kit.{Kit, Fits as FitsIn}
 use Rattle.theory.specs.Rows.{Row as RowOf, AllProper}
@@ -17,12 +16,11 @@ use Rattle.theory.specs.Critical.{New}
 use Rattle.theory.specs.Chain.{Covered, Pivots, covered-pivots}
 use Rattle.theory.specs.Index.{at-mem}
 use Rattle.theory.specs.Tails.{Tails}
-use Rattle.theory.specs.Loop.{listed-done, grade-skip}
-use Rattle.rack.specs.Racked.{costsOf, Racked}
+use Rattle.theory.specs.Loop.{listed-done}
+use Rattle.rack.specs.Racked.{Racked}
 use Rattle.pairs.specs.Pairs.{common, Listed, PairList}
 use Rattle.bridge.specs.Instance.{Load, rest-of}
-use Rattle.bridge.specs.Rows.{plain, plain-table}
-use Rattle.bridge.specs.Carry.{mem-map}
+use Rattle.bridge.specs.Rows.{plain-table}
 use Rattle.growth.specs.Setting.{Setting, KitOf, SheetOf, RelOf, alike-of, even-of, sheet-long, table-long, row-is, head-is}
 use Rattle.growth.specs.Grade.{no-row, no-swap, SwapsJoined, PairsJoined, Alike-made, common-grade}
 

@@ -1,9 +1,9 @@
 -- A grade ended: the new rows, with settled tails and in order, stand under the rows below.
 -- Assumes nothing.
 use Prim.Native.Nat.{ℕ, zero, suc, _+_, _-_, _*_, _≤_, _<_}
-use mathlib.Core.Path.{_≡_, refl, ap, sym, subst, _∙_}
-use mathlib.Core.Logic.{_⊎_, inl, inr, ⊎-elim}
-use mathlib.Core.List.{List, [], _∷_, _++_, List·Memᴰ·head, List·Memᴰ·tail, List·Memᴰ·not-nil, List·Memᴰ·cases-cons, List·Memᴰ·append-cases, Memᴰ·append-left, Memᴰ·append-right}
+use mathlib.Core.Path.{_≡_, ap, sym, subst, _∙_}
+use mathlib.Core.Logic.{inl, inr}
+use mathlib.Core.List.{List, [], _∷_, _++_, Memᴰ·append-left, Memᴰ·append-right}
 use native.Mathlib.Omega.{arith}
 use native.Mathlib.Decide.{decLt}
 use lib.ListN.{length, getD, length-append, List·getD-append}
@@ -16,21 +16,20 @@ use Rattle.terms.specs.Flat.{leftAt, rowAt, tableOf}
 use Rattle.laws.specs.Flat.{row-in, left-long, right-long}
 use Rattle.theory.specs.Kit.{Kit}
 use Rattle.theory.specs.Rows.{Row as RowOf}
-use Rattle.theory.specs.Table.{Alike, Table}
 use Rattle.theory.specs.Unique.{Sorted, Sorted.none, Sorted.next}
 use Rattle.theory.specs.Finished.{Above}
 use Rattle.theory.specs.Index.{at-mem, mem-at}
-use Rattle.theory.specs.Tails.{retail-grade, retail-at, retail-long}
+use Rattle.theory.specs.Tails.{retail-grade, retail-at}
 use Rattle.rack.specs.Rows.{SortedFrom}
 use Rattle.rack.proofs.Sorting.{sorted-kept, sorted-from, sorted-into, sorted-strict}
 use Rattle.pairs.specs.Pairs.{PairList}
 use Rattle.bridge.specs.Instance.{Load, load-path}
-use Rattle.bridge.specs.Rows.{plain, plain-table, plain-one, Sides, Sided, loads-table, plain-loads}
+use Rattle.bridge.specs.Rows.{plain-table, plain-one, Sides, Sided, loads-table, plain-loads}
 use Rattle.bridge.specs.Tables.{ByCounts}
-use Rattle.growth.specs.Setting.{Setting, KitOf, RelOf, alike-of, numbered-length, item-at, table-long, row-is}
+use Rattle.growth.specs.Setting.{KitOf, RelOf, alike-of, numbered-length, item-at, table-long, row-is}
 use Rattle.growth.specs.Grade.{no-row, SwapsJoined, PairsJoined}
 use Rattle.growth.specs.End.{grade-end}
-use Rattle.growth.specs.State.{Working, AtGrade, Within, TailsDone}
+use Rattle.growth.specs.State.{AtGrade, Within, TailsDone}
 
 -- ---- order by numbers
 

@@ -5,27 +5,21 @@ use mathlib.Core.Path.{_≡_, refl, ap, sym, subst, _∙_}
 use mathlib.Core.List.{List, [], _++_, List·Memᴰ·not-nil}
 use mathlib.Core.Bool.{Bool, true, false}
 use native.Mathlib.Omega.{arith}
-use native.Mathlib.Decide.{decLt}
 use lib.ListN.{length, getD}
 use lib.Dec.{leb}
-use borrow.Author.Tests.{leb-true, leb-false, le-leb}
+use borrow.Author.Tests.{le-leb}
 use Rattle.terms.specs.Load.{grade}
-use Rattle.terms.specs.Table.{Row, Finished}
+use Rattle.terms.specs.Table.{Finished}
 use Rattle.terms.specs.Swaps.{Reaches}
 use Rattle.terms.specs.Flat.{leftAt, numbered, swapAt, tableOf}
 use Rattle.theory.specs.Kit.{Kit}
-use Rattle.theory.specs.Rows.{Row as RowOf}
-use Rattle.theory.specs.Table.{Alike, Table}
-use Rattle.theory.specs.Unique.{Sorted, Sorted.none}
-use Rattle.theory.specs.Finished.{Above}
+use Rattle.theory.specs.Unique.{Sorted.none}
 use Rattle.theory.specs.Loop.{grade-skip}
 use Rattle.pairs.specs.Pairs.{common, Listed, PairList}
 use Rattle.bridge.specs.Instance.{Load}
-use Rattle.bridge.specs.Rows.{plain-table}
-use Rattle.bridge.specs.Tables.{ByCounts}
 use Rattle.bridge.specs.Sheet.{sheet-finished, found-no-more}
 use Rattle.rack.specs.Racked.{costsOf}
-use Rattle.growth.specs.Setting.{Setting, KitOf, SheetOf, RelOf, alike-of, even-of, sheet-long, table-long, left-is}
+use Rattle.growth.specs.Setting.{KitOf, SheetOf, RelOf, alike-of, even-of, sheet-long, table-long, left-is}
 use Rattle.growth.specs.Grade.{no-row, no-swap}
 use Rattle.growth.specs.End.{covered-of, common-is}
 use Rattle.growth.specs.State.{stamp, pick, Working, AtGrade, Within, NoRoomFor}

@@ -1,26 +1,21 @@
 -- One grade, in the theory: what the loops over the swaps and over the listed pairs keep, row by row.
 -- Assumes nothing.
-use Prim.Native.Nat.{ℕ, suc, _+_, _*_, _≤_, _<_}
-use mathlib.Core.Path.{_≡_, refl, ap, ap₂, sym, subst, _∙_}
-use mathlib.Core.List.{List, [], _∷_, _++_, append-nil}
-use native.Mathlib.Omega.{arith}
-use native.Mathlib.Decide.{decLt}
+use Prim.Native.Nat.{ℕ, _+_, _*_, _<_}
+use mathlib.Core.Path.{_≡_, refl}
+use mathlib.Core.List.{List, [], _∷_, _++_}
 use lib.ListN.{length, getD}
 use Rattle.terms.specs.Load.{grade}
-use Rattle.terms.specs.Swaps.{_∈_}
 use Rattle.terms.specs.Table.{Row}
-use Rattle.terms.specs.Flat.{leftAt, rightAt, numbered, swapAt, tableOf}
 use Rattle.laws.specs.Load.{join}
 use Rattle.theory.specs.Kit.{Kit}
 use Rattle.theory.specs.Rows.{Row as RowOf, row}
 use Rattle.theory.specs.Settle.{nf}
-use Rattle.theory.specs.Table.{Alike, Table}
+use Rattle.theory.specs.Table.{Alike}
 use Rattle.theory.specs.Critical.{New}
 use Rattle.theory.specs.Grow.{Later, later-refl, later-trans}
 use Rattle.theory.specs.Complete.{left-side, right-side}
-use Rattle.bridge.specs.Instance.{Load, load-path}
-use Rattle.bridge.specs.Rows.{plain, plain-table}
-use Rattle.rack.specs.Racked.{costsOf}
+use Rattle.bridge.specs.Instance.{Load}
+use Rattle.bridge.specs.Rows.{plain-table}
 use Rattle.growth.specs.Setting.{Setting, KitOf, SheetOf, RelOf, alike-of}
 use Rattle.growth.specs.Meets.{Apart, Grew}
 

@@ -1,17 +1,17 @@
 -- Joining two loads, in the theory: where they do not meet, the later one is a new head.
 -- Assumes nothing.
-use Prim.Native.Nat.{ℕ, _≤_, _<_}
+use Prim.Native.Nat.{ℕ}
 use mathlib.Core.Path.{_≡_, refl, ap, sym, subst, _∙_}
-use mathlib.Core.List.{List, [], _∷_, _++_, map, append-assoc}
+use mathlib.Core.List.{List, [], _∷_, _++_, append-assoc}
 use lib.ListN.{length}
 use Rattle.terms.specs.Load.{grade}
 use Rattle.terms.specs.Order.{Before}
-use Rattle.terms.specs.Swaps.{_∈_, Step}
+use Rattle.terms.specs.Swaps.{Step}
 use Rattle.terms.specs.Table.{Row}
-use Rattle.terms.specs.Settling.{NoneFits, FirstFit}
+use Rattle.terms.specs.Settling.{NoneFits}
 use Rattle.laws.specs.Order.{before-laws}
 use Rattle.theory.specs.Kit.{Kit}
-use Rattle.theory.specs.Rows.{Row as RowOf, row, Irr, First}
+use Rattle.theory.specs.Rows.{Row as RowOf, row, Irr}
 use Rattle.theory.specs.Settle.{nf}
 use Rattle.theory.specs.Critical.{New}
 use Rattle.theory.specs.Grow.{Meet, meet-start, meet-swap, meet-step, meet-done, meet-left, meet-right, Later, later-refl}

@@ -1,9 +1,8 @@
 -- The kit of 12 kinds that completion works on: its sheet, its relation, and its working table in the theory.
 -- Assumes nothing.
-use Prim.Native.Nat.{ℕ, zero, suc, _+_, _*_, _≤_, _<_}
+use Prim.Native.Nat.{ℕ, zero, suc, _+_, _≤_, _<_}
 use mathlib.Core.Path.{_≡_, refl, ap, sym, _∙_}
-use mathlib.Core.Logic.{⊎-elim}
-use mathlib.Core.List.{List, [], _∷_, map, List·Memᴰ·head, List·Memᴰ·tail, List·Memᴰ·not-nil, List·Memᴰ·cases-cons}
+use mathlib.Core.List.{List, [], _∷_, map}
 use native.Mathlib.Omega.{arith}
 use lib.ListN.{length, getD}
 use Rattle.terms.specs.Load.{grade}
@@ -11,12 +10,12 @@ use Rattle.terms.specs.Swaps.{_∈_, Swap}
 use Rattle.terms.specs.Table.{Row}
 use Rattle.terms.specs.Flat.{leftAt, rightAt, numbered, swapAt, rowAt, tableOf}
 use Rattle.theory.specs.Kit.{Kit}
-use Rattle.theory.specs.Rows.{Row as RowOf, row}
+use Rattle.theory.specs.Rows.{Row as RowOf}
 use Rattle.theory.specs.Table.{Alike}
 use Rattle.theory.specs.Complete.{sheet-alike}
 use Rattle.rack.specs.Racked.{costsOf}
-use Rattle.bridge.specs.Instance.{Load, load-path}
-use Rattle.bridge.specs.Rows.{plain, plain-table, plain-swap, plain-sheet, IsSwap, IsSheet, loads-sheet, plain-loads-sheet, loads-even}
+use Rattle.bridge.specs.Instance.{Load}
+use Rattle.bridge.specs.Rows.{plain, plain-table, plain-swap, plain-sheet, IsSheet, loads-sheet, plain-loads-sheet, loads-even}
 use Rattle.bridge.specs.Regular.{IsKit, kit-of, ReachOf}
 
 -- sizes, bound and swaps of the working kit

@@ -1,13 +1,13 @@
 -- One turn of the loops over the swaps and over the listed pairs of a grade.
 -- Assumes nothing.
-use Prim.Native.Nat.{ℕ, suc, _+_, _*_, _≤_, _<_}
-use mathlib.Core.Path.{_≡_, refl, ap, ap₂, sym, subst, _∙_}
+use Prim.Native.Nat.{ℕ, _+_, _*_, _≤_, _<_}
+use mathlib.Core.Path.{_≡_, ap, sym, subst, _∙_}
 use mathlib.Core.Logic.{inl}
 use mathlib.Core.List.{List, _++_}
 use native.Mathlib.Omega.{arith}
 use native.Mathlib.Decide.{decLt}
 use lib.ListN.{length, getD}
-use Rattle.terms.specs.Load.{grade, plus, less}
+use Rattle.terms.specs.Load.{grade, less}
 use Rattle.terms.specs.Swaps.{_∈_, exchange}
 use Rattle.terms.specs.Table.{Row}
 use Rattle.terms.specs.Flat.{leftAt, rightAt}
@@ -20,11 +20,10 @@ use Rattle.theory.specs.Reach.{either-reach}
 use Rattle.theory.specs.Grow.{Later}
 use Rattle.theory.specs.Index.{at-mem}
 use Rattle.theory.specs.Complete.{Swap as Given, left-side, right-side, pair-rel, duty-later}
-use Rattle.bridge.specs.Instance.{Load, load-path, rest-of}
-use Rattle.bridge.specs.Rows.{plain-table}
+use Rattle.bridge.specs.Instance.{Load, rest-of}
 use Rattle.growth.specs.Setting.{Setting, KitOf, SheetOf, RelOf, alike-of, even-of, sheet-long, left-is, right-is}
-use Rattle.growth.specs.Meets.{Meets, Grew, meets-grew}
-use Rattle.growth.specs.Grade.{none, no-row, no-swap, Grows, grows-map, grows-more, SwapsJoined, PairsJoined, Alike-made, common-grade}
+use Rattle.growth.specs.Meets.{Meets, meets-grew}
+use Rattle.growth.specs.Grade.{no-row, no-swap, Grows, grows-map, grows-more, SwapsJoined, PairsJoined, Alike-made, common-grade}
 
 module _ {bound : ℕ} {sizes swaps : List ℕ} {count : ℕ} (weights : List ℕ) (s : Setting bound sizes swaps count) (g : ℕ) (T₀ : List (RowOf (Load 12))) where
   abbrev K : Kit

@@ -6,9 +6,6 @@ use borrow.Author.Needs.{needs}
 use Rattle.grades.proofs.Listed.{PairsGoing, pairs-start, pairs-turn, pairs-skip, pairs-full, pairs-end, pairs-as, pairs-asked}
 use Rattle.grades.proofs.join_pairs.Statement.{statement}
 use Rattle.grades.proofs.join_pairs.Tie as tie
-use Rattle.grades.proofs.join_pairs.Reads as reads
-use Rattle.grades.proofs.join_pairs.Lts as lts
-use Rattle.grades.proofs.join_pair.Reads as join-pair-reads
 
 abbrev Inv-loop : tie.InvT-loop
 Inv-loop weights due mates pairs g table₀ rows room now₀ k₀ table now k = PairsGoing weights due mates pairs g table₀ rows room table now k
@@ -16,55 +13,42 @@ Inv-loop weights due mates pairs g table₀ rows room now₀ k₀ table now k = 
 abbrev μ-loop : tie.MeasureT-loop
 μ-loop weights due mates pairs g table₀ rows room now₀ k₀ table now k = pairs - k
 
--- src/lib.rt:127:5
 loop-holds : tie.Need-loop-holds Inv-loop μ-loop
 loop-holds c = pairs-start (c .before .before .before .before .pre .1 .0)
 
--- src/lib.rt:128:12
 mul-if1 : tie.Need-mul-if1 Inv-loop μ-loop
 mul-if1 c = search needs
 
--- src/lib.rt:128:12
 shared-slice-read-if1 : tie.Need-shared-slice-read-if1 Inv-loop μ-loop
 shared-slice-read-if1 c = search needs
 
--- src/lib.rt:128:12
 cast-if1 : tie.Need-cast-if1 Inv-loop μ-loop
 cast-if1 c = omega (arith, c .shared-slice-known4 .given (c .before .before .loop .k))
 
--- src/lib.rt:129:24
 mul-mate : tie.Need-mul-mate Inv-loop μ-loop
 mul-mate c = search needs
 
--- src/lib.rt:129:24
 shared-slice-read-mate : tie.Need-shared-slice-read-mate Inv-loop μ-loop
 shared-slice-read-mate c = search needs
 
--- src/lib.rt:129:24
 cast-mate : tie.Need-cast-mate Inv-loop μ-loop
 cast-mate c = omega (arith, c .shared-slice-known5 .given (c .before .before .before .before .loop .k))
 
--- src/lib.rt:130:13
 join-pair-requires : tie.Need-join-pair-requires Inv-loop μ-loop
 join-pair-requires c κs = pairs-asked (c .before .before .before .before .before .loop .inv) (c .before .before .before .before .loop-test .taken) (c .before .before .before .before .before .before .before .before .before .before .pre .0 .3) (c .before .before .before .before .before .before .before .before .before .before .pre .1 .2) (c .before .before .if1 .taken)
 
--- src/lib.rt:132:17
 same-length : tie.Need-same-length Inv-loop μ-loop
 same-length c = search needs
 
--- src/lib.rt:132:17
 returns : tie.Need-returns Inv-loop μ-loop
 returns c = pairs-full (c .before .before .before .before .before .before .before .before .before .loop .inv) (c .before .before .before .before .before .before .before .before .loop-test .taken) (c .before .before .before .before .before .before .if1 .taken) refl refl (c .before .before .before .join-pair .ensures) (c .if2 .taken)
 
--- src/lib.rt:135:9
 add-k : tie.Need-add-k Inv-loop μ-loop
 add-k c = search needs
 
--- src/lib.rt:127:5
 loop-less : tie.Need-loop-less Inv-loop μ-loop
 loop-less c = search needs
 
--- src/lib.rt:127:5
 loop-again : tie.Need-loop-again Inv-loop μ-loop
 loop-again c =
     ⊎-elim
@@ -72,11 +56,9 @@ loop-again c =
     (λ w. pairs-as (w .1) (w .2) (pairs-skip (c .before .before .before .loop .inv) (c .before .before .loop-test .taken) (w .0 .left)))
     (c .if1 .came)
 
--- src/lib.rt:111:1
 same-length-2 : tie.Need-same-length-2 Inv-loop μ-loop
 same-length-2 c = search needs
 
--- src/lib.rt:111:1
 returns-2 : tie.Need-returns-2 Inv-loop μ-loop
 returns-2 c = pairs-end (c .before .loop .inv) (c .loop-test .left)
 

@@ -6,9 +6,6 @@ use Rattle.grades.proofs.Going.{SwapsGoing, swaps-start, swaps-turn, sw
 use mathlib.Core.Logic.{⊎-elim}
 use Rattle.grades.proofs.join_swaps.Statement.{statement}
 use Rattle.grades.proofs.join_swaps.Tie as tie
-use Rattle.grades.proofs.join_swaps.Reads as reads
-use Rattle.grades.proofs.join_swaps.Lts as lts
-use Rattle.grades.proofs.join_swap.Reads as join-swap-reads
 
 abbrev Inv-loop : tie.InvT-loop
 Inv-loop weights swaps stamps count g table₀ rows room now₀ k₀ table now k = SwapsGoing weights swaps stamps count g table₀ rows room table now k
@@ -16,23 +13,18 @@ Inv-loop weights swaps stamps count g table₀ rows room now₀ k₀ table now k
 abbrev μ-loop : tie.MeasureT-loop
 μ-loop weights swaps stamps count g table₀ rows room now₀ k₀ table now k = count - k
 
--- src/lib.rt:66:5
 loop-holds : tie.Need-loop-holds Inv-loop μ-loop
 loop-holds c = swaps-start (c .before .before .before .before .pre .1)
 
--- src/lib.rt:67:12
 mul-if1 : tie.Need-mul-if1 Inv-loop μ-loop
 mul-if1 c = search needs
 
--- src/lib.rt:67:12
 shared-slice-read-if1 : tie.Need-shared-slice-read-if1 Inv-loop μ-loop
 shared-slice-read-if1 c = search needs
 
--- src/lib.rt:67:12
 cast-if1 : tie.Need-cast-if1 Inv-loop μ-loop
 cast-if1 c = omega (arith, c .shared-slice-known4 .given (c .before .before .loop .k))
 
--- src/lib.rt:68:13
 join-swap-requires : tie.Need-join-swap-requires Inv-loop μ-loop
 join-swap-requires c κs =
     let s = c .before .before .before .before .loop .inv in
@@ -41,23 +33,18 @@ join-swap-requires c κs =
     let fits : c .before .before .before .before .loop .now * 24 ≤ length (c .before .before .before .before .loop .table) = omega (arith, s .roomy, s .long, p .2) in
     (left-loaded w fits _ (c .before .before .before .loop-test .taken) (c .before .if1 .taken), right-loaded w fits _ (c .before .before .before .loop-test .taken) (c .before .if1 .taken), omega (arith, s .roomy, s .long, p .2), omega (arith, p .0 .working .swaps-long))
 
--- src/lib.rt:70:17
 same-length : tie.Need-same-length Inv-loop μ-loop
 same-length c = search needs
 
--- src/lib.rt:70:17
 returns : tie.Need-returns Inv-loop μ-loop
 returns c = swaps-full (c .before .before .before .before .before .before .before .before .loop .inv) (c .before .before .before .before .before .before .before .loop-test .taken) (c .before .before .before .before .before .before .before .before .before .before .before .before .before .pre .2) (c .before .before .before .before .before .if1 .taken) (c .before .before .before .join-swap .ensures) (c .if2 .taken)
 
--- src/lib.rt:73:9
 add-k : tie.Need-add-k Inv-loop μ-loop
 add-k c = search needs
 
--- src/lib.rt:66:5
 loop-less : tie.Need-loop-less Inv-loop μ-loop
 loop-less c = search needs
 
--- src/lib.rt:66:5
 loop-again : tie.Need-loop-again Inv-loop μ-loop
 loop-again c =
     ⊎-elim
@@ -65,11 +52,9 @@ loop-again c =
     (λ w. swaps-as (w .1) (w .2) (swaps-skip (c .before .before .before .loop .inv) (c .before .before .loop-test .taken) (c .before .before .before .before .before .before .before .before .pre .2) (w .0 .left)))
     (c .if1 .came)
 
--- src/lib.rt:48:1
 same-length-2 : tie.Need-same-length-2 Inv-loop μ-loop
 same-length-2 c = search needs
 
--- src/lib.rt:48:1
 returns-2 : tie.Need-returns-2 Inv-loop μ-loop
 returns-2 c = swaps-end (c .before .loop .inv) (c .loop-test .left)
 

@@ -9,9 +9,6 @@ use Rattle.laws.specs.Fill.{half, half-all, half-more}
 use Rattle.grades.proofs.Counts.{made-long, made-sub, made-at, made-small}
 use Rattle.grades.proofs.make.Statement.{statement}
 use Rattle.grades.proofs.make.Tie as tie
-use Rattle.grades.proofs.make.Reads as reads
-use Rattle.grades.proofs.make.Lts as lts
-use Rattle.pairs.proofs.larger.Reads as larger-reads
 
 abbrev Inv-loop : tie.InvT-loop
 Inv-loop h t q out₀ k₀ out k = (k ≤ 12) × (out ≡ half (exchange h t (join h q)) out₀ k) × (length out ≡ 12)
@@ -19,77 +16,60 @@ Inv-loop h t q out₀ k₀ out k = (k ≤ 12) × (out ≡ half (exchange h t (jo
 abbrev μ-loop : tie.MeasureT-loop
 μ-loop h t q out₀ k₀ out k = 12 - k
 
--- src/lib.rt:80:5
 loop-holds : tie.Need-loop-holds Inv-loop μ-loop
 loop-holds c = (omega arith, refl, c .before .before .before .before .pre .3)
 
--- src/lib.rt:81:34
 mul-larger : tie.Need-mul-larger Inv-loop μ-loop
 mul-larger c = search needs
 
--- src/lib.rt:81:34
 shared-slice-read-larger : tie.Need-shared-slice-read-larger Inv-loop μ-loop
 shared-slice-read-larger c = search needs
 
--- src/lib.rt:81:40
 mul-larger-2 : tie.Need-mul-larger-2 Inv-loop μ-loop
 mul-larger-2 c = search needs
 
--- src/lib.rt:81:40
 shared-slice-read-larger-2 : tie.Need-shared-slice-read-larger-2 Inv-loop μ-loop
 shared-slice-read-larger-2 c = search needs
 
--- src/lib.rt:81:13
 larger-requires : tie.Need-larger-requires Inv-loop μ-loop
 larger-requires c κs = search needs
 
--- src/lib.rt:82:27
 mul-kept : tie.Need-mul-kept Inv-loop μ-loop
 mul-kept c = search needs
 
--- src/lib.rt:82:27
 shared-slice-read-kept : tie.Need-shared-slice-read-kept Inv-loop μ-loop
 shared-slice-read-kept c = search needs
 
--- src/lib.rt:82:20
 sub-kept : tie.Need-sub-kept Inv-loop μ-loop
 sub-kept c =
     let a = c .before .before .before .before .before .before .before .before .before .before .args in
     let p = c .before .before .before .before .before .before .before .before .before .before .pre in
     made-sub (a .h .now) (a .t .now) (a .q .now) (p .0) (p .1) (p .2) (c .before .before .before .before .before .loop .k) (c .before .larger .result) (omega arith) (c .before .larger .ensures)
 
--- src/lib.rt:83:25
 mul-out : tie.Need-mul-out Inv-loop μ-loop
 mul-out c = search needs
 
--- src/lib.rt:83:25
 shared-slice-read-out : tie.Need-shared-slice-read-out Inv-loop μ-loop
 shared-slice-read-out c = search needs
 
--- src/lib.rt:83:18
 add-out : tie.Need-add-out Inv-loop μ-loop
 add-out c =
     let a = c .before .before .before .before .before .before .before .before .before .before .before .args in
     let p = c .before .before .before .before .before .before .before .before .before .before .before .pre in
     omega (arith, made-small (a .h .now) (a .t .now) (a .q .now) (p .0) (p .1) (p .2) (c .before .before .before .before .before .before .loop .k) (c .before .before .larger .result) (omega arith) (c .before .before .larger .ensures) (p .4))
 
--- src/lib.rt:83:9
 mul-out-2 : tie.Need-mul-out-2 Inv-loop μ-loop
 mul-out-2 c = search needs
 
--- src/lib.rt:83:9
 slice-write-out : tie.Need-slice-write-out Inv-loop μ-loop
 slice-write-out c = search needs
 
--- src/lib.rt:84:9
 add-k : tie.Need-add-k Inv-loop μ-loop
 add-k c = search needs
 
--- src/lib.rt:80:5
 loop-less : tie.Need-loop-less Inv-loop μ-loop
 loop-less c = search needs
 
--- src/lib.rt:80:5
 loop-again : tie.Need-loop-again Inv-loop μ-loop
 loop-again c =
     let a = c .before .before .before .before .before .before .before .before .before .before .before .args in
@@ -101,11 +81,9 @@ loop-again c =
       length-set (l .out) (l .k) _ ∙ l .inv .2,
     )
 
--- src/lib.rt:75:1
 same-length : tie.Need-same-length Inv-loop μ-loop
 same-length c = search needs
 
--- src/lib.rt:75:1
 returns : tie.Need-returns Inv-loop μ-loop
 returns c =
     let a = c .before .before .before .before .before .before .args in

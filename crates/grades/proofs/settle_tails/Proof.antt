@@ -3,9 +3,6 @@ use borrow.Author.Needs.{needs}
 use Rattle.grades.proofs.Ends.{TailsGoing, tails-none, tails-asked, tails-turn, tails-end}
 use Rattle.grades.proofs.settle_tails.Statement.{statement}
 use Rattle.grades.proofs.settle_tails.Tie as tie
-use Rattle.grades.proofs.settle_tails.Reads as reads
-use Rattle.grades.proofs.settle_tails.Lts as lts
-use Rattle.rack.proofs.settle_tail.Reads as settle-tail-reads
 
 abbrev Inv-loop : tie.InvT-loop
 Inv-loop weights table₀ base rows r₀ table r = TailsGoing weights table₀ base rows table r
@@ -13,31 +10,24 @@ Inv-loop weights table₀ base rows r₀ table r = TailsGoing weights table₀ b
 abbrev μ-loop : tie.MeasureT-loop
 μ-loop weights table₀ base rows r₀ table r = rows - r
 
--- src/lib.rt:147:5
 loop-holds : tie.Need-loop-holds Inv-loop μ-loop
 loop-holds c = tails-none (c .before .before .pre .1 .0)
 
--- src/lib.rt:148:9
 settle-tail-requires : tie.Need-settle-tail-requires Inv-loop μ-loop
 settle-tail-requires c κs = (tails-asked (c .before .before .loop .inv) (c .before .before .before .before .before .pre .0 .4) (c .before .before .before .before .before .pre .0 .5) (c .before .before .before .before .before .pre .1 .1), c .before .loop-test .taken)
 
--- src/lib.rt:149:9
 add-r : tie.Need-add-r Inv-loop μ-loop
 add-r c = search needs
 
--- src/lib.rt:147:5
 loop-less : tie.Need-loop-less Inv-loop μ-loop
 loop-less c = search needs
 
--- src/lib.rt:147:5
 loop-again : tie.Need-loop-again Inv-loop μ-loop
 loop-again c = tails-turn (c .before .before .before .before .before .loop .inv) (c .before .before .before .before .before .before .before .before .pre .1 .1) (c .before .before .before .before .loop-test .taken) (c .before .before .settle-tail .ensures)
 
--- src/lib.rt:141:1
 same-length : tie.Need-same-length Inv-loop μ-loop
 same-length c = search needs
 
--- src/lib.rt:141:1
 returns : tie.Need-returns Inv-loop μ-loop
 returns c = tails-end (c .before .loop .inv) (c .loop-test .left)
 
