@@ -85,7 +85,8 @@ pub fn leap_in(more: u16, h: &[u16], t: &[u16], x: &mut [u16])
 {
     let mut k = 0;
     while k < x.len() {
-        x[k] = went_at(h[k], t[k], x[k], more + 1);
+        let count = went_at(h[k], t[k], x[k], more + 1);
+        x[k] = count;
         k += 1;
     }
 }

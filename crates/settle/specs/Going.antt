@@ -1,24 +1,26 @@
 -- A run of settling: x is what the load x₀ has become, and r the row to apply next.
 -- Assumes nothing.
-use Prim.Native.Nat.{ℕ, suc, _+_, _*_, _≤_, _<_}
-use mathlib.Core.Path.{_≡_, refl, sym, subst}
+use Prim.Native.Nat.{ℕ, zero, suc, _+_, _*_, _≤_, _<_}
+use mathlib.Core.Path.{_≡_, refl, sym, ap, subst, subst₂, _∙_}
 use mathlib.Core.List.{List}
 use native.Mathlib.Omega.{arith}
 use lib.ListN.{length}
 use lib.IntN.{ℤ}
 use Rattle.terms.specs.Load.{grade, Fits}
-use Rattle.terms.specs.Swaps.{_∈_, exchange}
+use Rattle.terms.specs.Swaps.{_∈_, Step}
 use Rattle.terms.specs.Table.{Row}
 use Rattle.terms.specs.Flat.{leftAt, rightAt, rowAt, tableOf}
 use Rattle.terms.specs.Settling.{Proper, FirstFit, Settles, Settles.done}
-use Rattle.laws.specs.Load.{UpTo, all-map, up-to-more}
+use Rattle.laws.specs.Load.{UpTo, all-map, up-to-more, fits-trans}
 use Rattle.laws.specs.Order.{before-laws}
 use Rattle.laws.specs.Flat.{row-in, left-long, right-long, in-numbered}
 use Rattle.bridge.specs.Rows.{Sides, Sided}
 use Rattle.bridge.specs.Regular.{IsKit}
 use Rattle.loads.specs.FirstRow.{FirstRow, first-is, none-is}
+use Rattle.leap.specs.Rounds.{wents, tops, Rounds, Calm}
+use Rattle.leap.specs.Way.{wents-zero, tops-zero, wents-fit, wents-next, wents-within, tops-small}
 use Rattle.settle.specs.Ready.{Ready}
-use Rattle.settle.specs.Strides.{Strides, strides-settle, Fallen, strides-fall, counts-small, rank-falls}
+use Rattle.settle.specs.Strides.{Strides, strides-settle, Fallen, step-falls, strides-fall, counts-small, rank-falls}
 
 pub record Going (n bound : ℕ) (sizes : List ℕ) (rules : List ℕ) (rows : ℕ) (x₀ x : List ℕ) (r : ℕ) : Type 0 where
   pub long : length x ≡ n
@@ -74,18 +76,67 @@ module _ (n bound : ℕ) (sizes : List ℕ) (costs : List ℤ) (rules : List ℕ
           }
 
     module _ (in-use : r < rows) where
-      pub run-first : FirstFit x (rowAt n rules r) (tableOf n rules rows)
-      run-first = first-is n rules x rows r (going .at) in-use
+      -- ---- the row applied many times, as h and t
 
-      pub run-fits : Fits (leftAt n rules r) x
-      run-fits = going .at .fits-there in-use
+      module _ (h t : List ℕ) (is-h : h ≡ leftAt n rules r) (is-t : t ≡ rightAt n rules r) where
+        pub h-long : length h ≡ length x
+        h-long = ap length is-h ∙ left-long n rules r (lies r in-use) ∙ sym (going .long)
 
-      -- the row applied once
-      pub once : Strides (tableOf n rules rows) 1 x (exchange (leftAt n rules r) (rightAt n rules r) x)
-      once = (rowAt n rules r, exchange (leftAt n rules r) (rightAt n rules r) x, run-first, record { fits = run-fits; gives = refl }, refl)
+        pub t-long : length t ≡ length x
+        t-long = ap length is-t ∙ right-long n rules r (lies r in-use) ∙ sym (going .long)
 
-      pub once-small : UpTo 65535 (exchange (leftAt n rules r) (rightAt n rules r) x)
-      once-small =
-          let y = exchange (leftAt n rules r) (rightAt n rules r) x in
-          let f = run-fallen 0 y once in
-          counts16 y (f .long) (omega (arith, f .level, going .small))
+        pub h-fits : Fits h x
+        h-fits = subst (λ (k : List ℕ). Fits k x) (sym is-h) (going .at .fits-there in-use)
+
+        -- no earlier row fits at the start
+        pub calm-start : Calm n rules r h t x 0
+        calm-start k l w =
+            going .at .none-before k l (subst (λ (z : List ℕ). Fits (leftAt n rules k) z) (tops-zero h t x h-long t-long) w)
+
+        module _ (more : ℕ) (enough : Rounds more h t x) where
+          round : (c : ℕ) → c ≤ more → Step (leftAt n rules r) (rightAt n rules r) (wents c h t x) (wents (suc c) h t x)
+          round c l =
+              subst₂ (λ (k j : List ℕ). Step k j (wents c h t x) (wents (suc c) h t x)) is-h is-t
+              (record { fits = wents-fit more c l h t x h-long t-long enough; gives = wents-next more c l h t x h-long t-long enough })
+
+          -- every load on the way has n counts and the grade of x
+          way : (c : ℕ) → c ≤ suc more → (length (wents c h t x) ≡ n) × (grade sizes (wents c h t x) ≡ grade sizes x)
+          way zero l =
+              (ap length (wents-zero h t x h-long t-long) ∙ going .long, ap (grade sizes) (wents-zero h t x h-long t-long))
+          way (suc c) l =
+              let w = way c (omega arith) in
+              let f = step-falls n bound sizes costs (rowAt n rules r) (wents c h t x) (wents (suc c) h t x) (left-long n rules r (lies r in-use)) (right-long n rules r (lies r in-use)) (ready .proper r in-use) (w .0) (round c (omega arith)) in
+              (f .long, f .level ∙ w .1)
+
+          way-small : (c : ℕ) → c ≤ suc more → UpTo 65535 (wents c h t x)
+          way-small c l = let w = way c l in counts16 (wents c h t x) (w .0) (omega (arith, w .1, going .small))
+
+          pub tops-fit : (m : ℕ) → m ≤ more → UpTo 65535 (tops m h t x)
+          tops-fit m l =
+              tops-small 65535 m h t x (counts16 x (going .long) (going .small)) (way-small m (omega arith))
+
+          pub leap-fits : UpTo 65535 (wents (more + 1) h t x)
+          leap-fits = way-small (more + 1) (omega arith)
+
+          module _ (calm : Calm n rules r h t x more) where
+            first-there : (c : ℕ) → c ≤ more → FirstFit (wents c h t x) (rowAt n rules r) (tableOf n rules rows)
+            first-there c l =
+                first-is n rules (wents c h t x) rows r
+                (record {
+                  within = going .at .within;
+                  none-before = λ k m w. calm k m (fits-trans (leftAt n rules k) (wents c h t x) (tops more h t x) w (wents-within more c l h t x));
+                  fits-there = λ u. round c l .fits;
+                })
+                in-use
+
+            many : (k c : ℕ) → c + k ≤ suc more → Strides (tableOf n rules rows) k (wents c h t x) (wents (c + k) h t x)
+            many zero c l = let e : c ≡ c + 0 = omega arith in ap (λ (j : ℕ). wents j h t x) e
+            many (suc k) c l =
+                let e : suc c + k ≡ c + suc k = omega arith in
+                (rowAt n rules r, wents (suc c) h t x, first-there c (omega arith), round c (omega arith), subst (λ (j : ℕ). Strides (tableOf n rules rows) k (wents (suc c) h t x) (wents j h t x)) e (many k (suc c) (omega arith)))
+
+            -- the leap is that many strides
+            pub leap-strides : Strides (tableOf n rules rows) (suc more) x (wents (more + 1) h t x)
+            leap-strides =
+                let e : 0 + suc more ≡ more + 1 = omega arith in
+                subst₂ (λ (y z : List ℕ). Strides (tableOf n rules rows) (suc more) y z) (wents-zero h t x h-long t-long) (ap (λ (j : ℕ). wents j h t x) e) (many (suc more) 0 (omega arith))

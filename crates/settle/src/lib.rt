@@ -129,7 +129,7 @@ pub fn refusal(
     Settled::Done
 }
 
-// While a row's head fits in the load, the first such row is applied. Every row is proper.
+// While a row's head fits in the load, the first such row is applied, as often at once as single steps would apply it. Every row is proper.
 pub fn settle_proper(
     n: usize,
     bound: usize,
@@ -145,11 +145,11 @@ pub fn settle_proper(
 {
     let mut r = loads::first_fit(n, rules, rows, load);
     while r < rows {
-        loads::exchange_in(
-            loads::left_of(n, rules, r),
-            loads::right_of(n, rules, r),
-            load,
-        );
+        let h = loads::left_of(n, rules, r);
+        let t = loads::right_of(n, rules, r);
+        let most = leap::rounds_of(h, t, load);
+        let more = leap::calm(n, rules, r, h, t, load, most);
+        leap::leap_in(more, h, t, load);
         r = loads::first_fit(n, rules, rows, load);
     }
 }
