@@ -114,8 +114,8 @@ fn kit_n(label: &[u8], bound: usize, cost: i32, rules: &[u16], a: u16, b: u16) {
     show(label, answer, &load);
 }
 
-// Which of two loads comes first: x has x0 parts of kind 1, and y has y0.
-fn write_earlier(label: &[u8], costs: &[i32], x: &[u16], y: &[u16]) {
+// Which of two loads comes first; only y may have no part of kind 1.
+fn write_earlier<'a>(label: &[u8], costs: &[i32], x: &'a [u16], y: &'a [u16]) {
     io::write_all(STDOUT_FILENO, label);
     let first = compare::earlier(12, costs, x, y);
     if first.len() == 0 {
