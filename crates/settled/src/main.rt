@@ -52,44 +52,47 @@ fn show(label: &[u8], answer: Settled, load: &[u16]) {
     write_counts(load);
 }
 
+// The finished table of kit A.
+const FINISHED_A: [u16; 32] = [
+    0,
+    2,
+    0,
+    0,
+    1,
+    0,
+    1,
+    0,
+    0,
+    1,
+    0,
+    1,
+    0,
+    0,
+    2,
+    0,
+    0,
+    1,
+    2,
+    0,
+    1,
+    0,
+    1,
+    1,
+    1,
+    0,
+    1,
+    2,
+    0,
+    0,
+    4,
+    0,
+];
+
 // Kit A with its finished table.
 fn kit_a(label: &[u8], a: u16, b: u16, c: u16, d: u16) {
     let sizes = [1u16, 2, 3, 4];
     let costs = [0i32, 1, 0, 0];
-    let rules = [
-        0u16,
-        2,
-        0,
-        0,
-        1,
-        0,
-        1,
-        0,
-        0,
-        1,
-        0,
-        1,
-        0,
-        0,
-        2,
-        0,
-        0,
-        1,
-        2,
-        0,
-        1,
-        0,
-        1,
-        1,
-        1,
-        0,
-        1,
-        2,
-        0,
-        0,
-        4,
-        0,
-    ];
+    let rules = FINISHED_A;
     let mut load = [a, b, c, d];
     let answer = settle::settle(Kit::of(4, 12), &sizes, &costs, &rules, 4, &mut load);
     show(label, answer, &load);

@@ -37,6 +37,11 @@ returns c =
     let not-done : answer ≡ Done → ⊥ = λ e. refused-not-done _ _ (sym e ∙ c .enum-told2 .given .1) in
     outcome-map (λ o. o .0 ≡ Done) (Accepted (s .args .kit .kinds) (s .args .rules .now) (s .args .rows) (s .args .load .now)) (tests (s .args .kit .kinds) (s .args .kit .bound) (s .args .sizes .now) (s .args .costs .now) (s .args .rules .now) (s .args .rows) (s .args .load .now)) (answer, s .args .load .now) (λ e. absurd (not-done e)) (c .before .before .refusal .ensures)
 
+returns-2 : tie.Need-returns-2
+returns-2 c =
+    let s = c .before .before .before .before .before .before .before .before .before .before .before in
+    ends (Accepted (s .args .kit .kinds) (s .args .rules .now) (s .args .rows) (s .args .load .now)) (tests (s .args .kit .kinds) (s .args .kit .bound) (s .args .sizes .now) (s .args .costs .now) (s .args .rules .now) (s .args .rows) (s .args .load .now)) _ (held (c .before .before .before .before)) (refl, c .before .before .settle-proper .ensures)
+
 settle-proper-requires : tie.Need-settle-proper-requires
 settle-proper-requires c κs =
     let f = fit (c .before) in
@@ -44,11 +49,6 @@ settle-proper-requires c κs =
 
 same-length-2 : tie.Need-same-length-2
 same-length-2 c = search needs
-
-returns-2 : tie.Need-returns-2
-returns-2 c =
-    let s = c .before .before .before .before .before .before .before .before .before .before .before in
-    ends (Accepted (s .args .kit .kinds) (s .args .rules .now) (s .args .rows) (s .args .load .now)) (tests (s .args .kit .kinds) (s .args .kit .bound) (s .args .sizes .now) (s .args .costs .now) (s .args .rules .now) (s .args .rows) (s .args .load .now)) _ (held (c .before .before .before .before)) (refl, c .before .before .settle-proper .ensures)
 
 pub settle-spec : {M : Type 1} → statement M
 settle-spec =
