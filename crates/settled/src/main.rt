@@ -2,21 +2,6 @@
 use libc::STDOUT_FILENO;
 use settle::Settled;
 use terms::Kit;
-use terms::Refusal;
-
-// Document 01's number of a refusal that settle gives.
-fn number(why: Refusal) -> u8 {
-    match why {
-        Refusal::Kinds => 1,
-        Refusal::Bound => 2,
-        Refusal::Length => 3,
-        Refusal::Size => 4,
-        Refusal::Cost => 5,
-        Refusal::BadRow => 9,
-        Refusal::OverBound => 10,
-        _ => 0,
-    }
-}
 
 // A number of one or two digits.
 fn write_number(value: u8) {
@@ -45,7 +30,7 @@ fn show(label: &[u8], answer: Settled, load: &[u16]) {
         }
         Settled::Refused(why, _) => {
             io::write_all(STDOUT_FILENO, b" refused ");
-            write_number(number(why));
+            write_number((numbers::number(why) % 100) as u8);
             io::write_all(STDOUT_FILENO, b":");
         }
     }
