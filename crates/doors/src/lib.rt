@@ -1,6 +1,9 @@
 // The calls of the library for programs in other languages: plain numbers and slices (a pointer, then how many elements).
 // No call has a `requires`; include/kitsettle.h says the same in C.
-ghost use Rattle.doors.specs.Answers.{EarlierIs};
+use settle::Settled;
+use terms::Kit;
+ghost use mathlib.Core.Path.{_≡_};
+ghost use Rattle.doors.specs.Answers.{EarlierIs, SettleIs, settleNumber, settlePlace};
 
 // 1 or 2, the load that comes first; 0 where the input is refused.
 #[no_mangle]
@@ -19,4 +22,41 @@ pub extern "C" fn kitsettle_earlier(
         return 2;
     }
     1
+}
+
+fn settle_number(a: Settled) -> u32
+    ensures { λ r. ⌜ r ≡ settleNumber a ⌝ }
+{
+    match a {
+        Settled::Done => 0,
+        Settled::Refused(why, _) => numbers::number(why),
+    }
+}
+
+fn settle_place(a: Settled) -> usize
+    ensures { λ r. ⌜ r ≡ settlePlace a ⌝ }
+{
+    match a {
+        Settled::Done => 0,
+        Settled::Refused(_, place) => place,
+    }
+}
+
+// 0, and the load is settled; or the refusal number, with its place at `place`.
+#[no_mangle]
+pub extern "C" fn kitsettle_settle(
+    kinds: usize,
+    bound: usize,
+    sizes: &[u16],
+    costs: &[i32],
+    rules: &[u16],
+    rows: usize,
+    load: &mut [u16],
+    place: &mut usize,
+) -> u32
+    ensures { λ r. ⌜ SettleIs kinds bound (now (sizes .entry)) (now (costs .entry)) (now (rules .entry)) rows (now (load .entry)) r (now (load .exit)) (now (place .exit)) ⌝ }
+{
+    let a = settle::settle(Kit::of(kinds, bound), sizes, costs, rules, rows, load);
+    *place = settle_place(a);
+    settle_number(a)
 }

@@ -1,2 +1,3 @@
 -- What the program writes, as lists of bytes.
 pub mod Report
+pub mod One
