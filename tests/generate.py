@@ -423,9 +423,9 @@ def complete_call(seed):
     room = min(ROWS, rng.choice((rows, rows, max(0, rows - 1), rows + 1, 0, rng.randint(0, ROWS))))
     call = {"kinds": kit.kinds, "bound": kit.bound, "sizes": list(kit.sizes), "costs": list(kit.costs),
             "swaps": flat(job.swaps), "rules": junk(rng, room * 2 * kit.kinds)}
-    if rng.random() < 0.04:
+    if rng.random() < 0.08:  # a swap of equal sides, or most likely of unequal grades
         side = list(make_load(rng, kit))
-        call["swaps"][:0] = side + side
+        call["swaps"][:0] = side + rng.choice((side, list(make_load(rng, kit))))
     for _ in range(rng.choice((0, 0, 0, 1, 1, 2))):
         spoil_call(rng, call)
     return call
