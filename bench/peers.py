@@ -73,7 +73,8 @@ def macaulay2(sheet):
     order = f"{{Weights=>{{{sizes}}},Weights=>{{{listed(positive_costs(sheet))}}},Lex}}"
     script = f"""
         R=ZZ/{FIELD}[{variables},Degrees=>{{{sizes}}},MonomialOrder=>{order}];
-        scan({RUNS},i->(I=ideal({swaps or "0_R"});T=elapsedTiming(G=gb(I,DegreeLimit=>{sheet["bound"]}));print("TIME "|toString(T#0))));
+        once=i->(I=ideal({swaps or "0_R"});T=elapsedTiming(G=gb(I,DegreeLimit=>{sheet["bound"]}));T#0);
+        scan({RUNS},i->print("TIME "|toString(once i)));
         print("ROWS "|toString(#select(first entries gens G,f->first degree f<={sheet["bound"]})));
         exit 0\n"""
     with tempfile.NamedTemporaryFile("w", suffix=".m2") as file:

@@ -7,7 +7,8 @@
 #include <time.h>
 #include "kitsettle.h"
 
-enum { KINDS = 12, SWAPS = 64 * 2 * KINDS, LOADS = 1024 * KINDS, RULES = 256 * 2 * KINDS, TEXT = 65537, MOST = 100000, LEAST = 5 };
+enum { KINDS = 12, SWAPS = 64 * 2 * KINDS, LOADS = 1024 * KINDS, RULES = 256 * 2 * KINDS, TEXT = 65537 };
+enum { LEAST = 5, MOST = 100000 }; /* runs */
 
 struct sheet {
     uint16_t sizes[KINDS], swaps[SWAPS], loads[LOADS];
