@@ -1,0 +1,2 @@
+-- What the contracts of `sides` cite besides the terms.
+pub mod Fine
