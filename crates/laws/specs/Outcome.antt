@@ -1,6 +1,7 @@
 -- A call's outcome is one, where acceptance leaves one; and how a program's tests show it.
 --     outcome-one     two outcomes coincide
 --     passed          every test was passed, where the outcome is none of the refusals
+--     taken           where every test holds, the outcome is as acceptance says
 --     ends, past, stops                 an outcome is put together: all hold; these hold and the rest decides; one of these does not hold
 --     turns-hold, hold-turns, turns-stop, never-turns     the same of tests in turn
 -- Assumes nothing.
@@ -42,6 +43,12 @@ module _ {O : Type 0} where
   passed accepted [] o n a = tt
   passed accepted (t ∷ ts) o n (inl f) = absurd (n .0 (f .1))
   passed accepted (t ∷ ts) o n (inr a) = (a .0, passed accepted ts o (n .1) (a .1))
+
+  -- where every test holds, the outcome is as acceptance says
+  pub taken : (accepted : O → Type 0) (ts : List (Test O)) (o : O) → AllHold ts → Outcome accepted ts o → accepted o
+  taken accepted [] o h a = a
+  taken accepted (t ∷ ts) o h (inl f) = absurd (f .0 (h .0))
+  taken accepted (t ∷ ts) o h (inr a) = taken accepted ts o (h .1) (a .1)
 
   -- ---- an outcome is put together
 

@@ -1,0 +1,3 @@
+-- What the calls promise together.
+pub mod Completed
+pub mod Promises
