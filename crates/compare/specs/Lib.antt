@@ -1,2 +1,3 @@
 -- What the contracts of `compare` cite besides the terms.
 pub mod Earlier
+pub mod One

@@ -1,1 +1,1 @@
-// stub
+// What the loops of completion keep, in the theory: specs only.

@@ -14,7 +14,7 @@ use Rattle.terms.specs.Limits.{All}
 use Rattle.terms.specs.Swaps.{_∈_, Reaches}
 use Rattle.terms.specs.Table.{Row}
 use Rattle.terms.specs.Settling.{Proper}
-use Rattle.terms.specs.Flat.{rowsLent, rowAt, tableOf, sheetOf, laid, filled}
+use Rattle.terms.specs.Flat.{rowsLent, rowAt, tableOf, sheetOf, laid}
 use Rattle.terms.specs.Outcome.{must, inTurn}
 use Rattle.laws.specs.Outcome.{AllHold, Never, passed, taken, never-append, never-turns, append-hold, hold-append, hold-turns}
 use Rattle.laws.specs.Flat.{numbered-in}
@@ -28,7 +28,7 @@ use Rattle.settle.specs.Call.{rowTest, tests}
 use Rattle.complete.specs.declared.Completed.{Completed}
 use Rattle.complete.specs.declared.Completed.the-variants.{Rows, Refused}
 use Rattle.complete.specs.Call.{swapTests, inputTests, IsFinished, roomTest, tests as completeTests, Accepted, Completing}
-use Rattle.complete.specs.Passed.{Fit, fit-of, fine-kit, table-of, refused-not-rows}
+use Rattle.complete.specs.Passed.{Fit, fit-of, fine-kit, table-of}
 
 -- ---- no refusal of complete answers with a number of rows
 

@@ -6,9 +6,10 @@
 --     one-..              each call: two outcomes that its contract allows are the same
 -- Assumes nothing.
 use Prim.Native.Nat.{ℕ, _+_, _≤_}
-use mathlib.Core.Path.{_≡_, refl, sym, subst, _∙_}
+use mathlib.Core.Path.{_≡_, sym, _∙_}
 use mathlib.Core.List.{List}
 use native.Mathlib.Omega.{arith}
+use denote.Ref.{RefT, now}
 use lib.ListN.{length}
 use lib.IntN.{ℤ}
 use Rattle.terms.specs.Load.{plus, grade}
@@ -19,10 +20,12 @@ use Rattle.terms.specs.Flat.{sheetOf, tableOf}
 use Rattle.laws.specs.Outcome.{taken}
 use Rattle.laws.specs.Load.{grade-plus, length-both}
 use Rattle.bridge.specs.Theorems as theorems
-use Rattle.bridge.specs.Demands.{Ends}
+use Rattle.compare.specs.Earlier.{Fine, Earlier}
+use Rattle.compare.specs.One.{earlier-one, refused-one}
 use Rattle.settle.specs.declared.Settled.{Settled}
 use Rattle.settle.specs.declared.Settled.the-variants.{Done}
-use Rattle.settle.specs.Call.{tests, Accepted, Settling, settling-one}
+use Rattle.settle.specs.Call.{tests, Accepted, Settling}
+use Rattle.settle.specs.One.{settling-one}
 use Rattle.complete.specs.declared.Completed.{Completed}
 use Rattle.complete.specs.declared.Completed.the-variants.{Rows}
 use Rattle.complete.specs.Call.{Completing}
@@ -93,3 +96,10 @@ one-completion = completing-one
 
 pub one-settling : (n bound : ℕ) (sizes : List ℕ) (costs : List ℤ) (rules : List ℕ) (rows : ℕ) (load : List ℕ) (o p : Settled × List ℕ) → Settling n bound sizes costs rules rows load o → Settling n bound sizes costs rules rows load p → o ≡ p
 one-settling = settling-one
+
+-- of earlier of two: the same reference; refused, a part that starts at the same place and holds nothing
+pub one-earlier : (n : ℕ) (costs : List ℤ) (x y r s : RefT (List ℕ)) → Fine n costs (now x) (now y) → Earlier n costs x y r → Earlier n costs x y s → r ≡ s
+one-earlier = earlier-one
+
+pub one-refused : (n : ℕ) (costs : List ℤ) (x y r s : RefT (List ℕ)) → (Fine n costs (now x) (now y) → ⊥) → Earlier n costs x y r → Earlier n costs x y s → (r .ptr ≡ s .ptr) × (now r ≡ now s)
+one-refused = refused-one

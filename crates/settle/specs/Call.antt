@@ -1,6 +1,6 @@
 -- The call settle: its tests in document 01's sequence, and what acceptance says. An outcome is the answer and the load at exit.
 use Prim.Native.Nat.{ℕ, _≤_}
-use mathlib.Core.Path.{_≡_, sym, _∙_}
+use mathlib.Core.Path.{_≡_}
 use mathlib.Core.List.{List, [], _∷_, _++_}
 use lib.ListN.{length}
 use lib.IntN.{ℤ}
@@ -10,8 +10,6 @@ use Rattle.terms.specs.Limits.{All, KindsFine, BoundFine, SizeFine, CostFine, m
 use Rattle.terms.specs.Flat.{rowsLent, rowAt, tableOf}
 use Rattle.terms.specs.Settling.{Proper, Settles}
 use Rattle.terms.specs.Outcome.{Test, must, inTurn, Outcome}
-use Rattle.laws.specs.Outcome.{outcome-one}
-use Rattle.bridge.specs.Settling.{settles-one}
 use Rattle.loads.specs.Lent.{Lent}
 use Rattle.settle.specs.declared.Settled.{Settled}
 use Rattle.settle.specs.declared.Settled.the-variants.{Done, Refused}
@@ -45,11 +43,3 @@ Accepted n rules rows load o = (o .0 ≡ Done) × Settles (tableOf n rules rows)
 -- what the contract of settle says of an outcome
 abbrev pub Settling : ℕ → ℕ → List ℕ → List ℤ → List ℕ → ℕ → List ℕ → Settled × List ℕ → Type 0
 Settling n bound sizes costs rules rows load = Outcome (Accepted n rules rows load) (tests n bound sizes costs rules rows load)
-
--- two outcomes that the contract allows are the same: one answer, and one load at exit
-pub settling-one : (n bound : ℕ) (sizes : List ℕ) (costs : List ℤ) (rules : List ℕ) (rows : ℕ) (load : List ℕ) (o p : Settled × List ℕ) → Settling n bound sizes costs rules rows load o → Settling n bound sizes costs rules rows load p → o ≡ p
-settling-one n bound sizes costs rules rows load =
-    outcome-one (Accepted n rules rows load) (tests n bound sizes costs rules rows load) (λ h o p a b. pair-of (a .0 ∙ sym (b .0)) (settles-one (a .1) (b .1)))
-  where
-    pair-of : {o p : Settled × List ℕ} → o .0 ≡ p .0 → o .1 ≡ p .1 → o ≡ p
-    pair-of e f = λ i. (e i, f i)
