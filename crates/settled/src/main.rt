@@ -3,24 +3,6 @@ use libc::STDOUT_FILENO;
 use settle::Settled;
 use terms::Kit;
 
-// A number of one or two digits.
-fn write_number(value: u8) {
-    if 9 < value {
-        io::write_all(STDOUT_FILENO, &[48 + value / 10 % 10]);
-    }
-    io::write_all(STDOUT_FILENO, &[48 + value % 10]);
-}
-
-fn write_counts(load: &[u16]) {
-    let mut k = 0;
-    while k < load.len() {
-        io::write_all(STDOUT_FILENO, b" ");
-        write_number((load[k] % 100) as u8);
-        k += 1;
-    }
-    io::write_all(STDOUT_FILENO, b"\n");
-}
-
 // The answer and the load, as in the table.
 fn show(label: &[u8], answer: Settled, load: &[u16]) {
     io::write_all(STDOUT_FILENO, label);
@@ -30,11 +12,11 @@ fn show(label: &[u8], answer: Settled, load: &[u16]) {
         }
         Settled::Refused(why, _) => {
             io::write_all(STDOUT_FILENO, b" refused ");
-            write_number((numbers::number(why) % 100) as u8);
+            tell::write_number((numbers::number(why) % 100) as u8);
             io::write_all(STDOUT_FILENO, b":");
         }
     }
-    write_counts(load);
+    tell::write_counts(load);
 }
 
 // The finished table of kit A.

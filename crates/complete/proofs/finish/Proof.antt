@@ -36,7 +36,7 @@ same-length c = search needs
 returns : tie.Need-returns
 returns c =
     let s = c .before .before .before .before .before .before .before .before .before .before .before in
-    inl (none-fits (s .pre .0) (s .args .rules .now) _ _ (c .before .before .before .before .before .before .grow .ensures) (c .if1 .taken), λ i. (Refused NoRoom 0, c .before .before .before .clear .ensures i))
+    inl (none-fits (s .pre .0) (s .args .rules .now) _ _ (c .before .before .before .before .before .before .grow .ensures) (omega (arith, c .if1 .taken)), λ i. (Refused NoRoom 0, c .before .before .before .clear .ensures i))
 
 slice-aggregate-resize-rows : tie.Need-slice-aggregate-resize-rows
 slice-aggregate-resize-rows c = search needs
@@ -46,7 +46,7 @@ resize-rows-requires c κs =
     let s = c .before .before .before .before .before .before .before .before .before .before .before .before .before in
     let rows = c .before .before .before .before .before .before .before .before .grow .result in
     let long = c .before .before .before .before .before .clear .kept .0 in
-    (omega arith, omega (arith, long, rows-in (s .args .n) rows (length (s .args .rules .now)) (c .before .before .if1 .left) (s .pre .1 .whole)), c .before .before .before .before .before .clear .ensures ∙ ap zeros (sym long))
+    (omega arith, omega (arith, long, rows-in (s .args .n) rows (length (s .args .rules .now)) (omega (arith, c .before .before .if1 .left)) (s .pre .1 .whole)), c .before .before .before .before .before .clear .ensures ∙ ap zeros (sym long))
 
 same-length-2 : tie.Need-same-length-2
 same-length-2 c = search needs
@@ -56,7 +56,7 @@ returns-2 c =
     let s = c .before .before .before .before .before .before .before .before .before .before .before .before .before .before .before .before in
     let rows = c .before .before .before .before .before .before .before .before .before .before .before .grow .result in
     let table = c .before .before .before .before .before .before .before .before .before .before .before .grow .last .1 .1 .1 .1 .1 .0 in
-    all-fit (s .pre .0) (s .args .rules .now) table rows (c .before .before .before .before .before .before .before .before .before .before .before .grow .ensures) (c .before .before .before .before .before .if1 .left) _ (c .before .before .resize-rows .ensures ∙ ap (λ (k : ℕ). filled k (map (resizeRow (s .args .n)) (tableOf 12 table rows))) (c .before .before .before .before .before .before .before .before .clear .kept .0))
+    all-fit (s .pre .0) (s .args .rules .now) table rows (c .before .before .before .before .before .before .before .before .before .before .before .grow .ensures) (omega (arith, c .before .before .before .before .before .if1 .left)) _ (c .before .before .resize-rows .ensures ∙ ap (λ (k : ℕ). filled k (map (resizeRow (s .args .n)) (tableOf 12 table rows))) (c .before .before .before .before .before .before .before .before .clear .kept .0))
 
 pub finish-spec : {M : Type 1} → statement M
 finish-spec =

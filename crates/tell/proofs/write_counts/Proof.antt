@@ -1,8 +1,8 @@
 use Prim.Native.Nat.{_≤_, _-_}
 use lib.ListN.{length}
 use borrow.Author.Needs.{needs}
-use Rattle.settled.proofs.write_counts.Statement.{statement}
-use Rattle.settled.proofs.write_counts.Tie as tie
+use Rattle.tell.proofs.write_counts.Statement.{statement}
+use Rattle.tell.proofs.write_counts.Tie as tie
 
 abbrev Inv-loop : tie.InvT-loop
 Inv-loop load k₀ t3 t4 k = k ≤ length load
