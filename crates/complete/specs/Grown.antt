@@ -14,7 +14,6 @@ use Rattle.terms.specs.Table.{Row, Finished}
 use Rattle.terms.specs.Flat.{leftAt, numbered, swapAt, rowAt, rowsLent, sheetOf, tableOf, filled}
 use Rattle.laws.specs.Load.{all-map}
 use Rattle.laws.specs.Laid.{numbered-long}
-use Rattle.bridge.specs.Rows.{IsSheet}
 use Rattle.padding.specs.Widen.{widenSizes, widenSwap, widenRow, weights, resizeRow}
 use Rattle.padding.specs.Kinds.{weights-long}
 use Rattle.padding.specs.Padded.{wide-sizes-fine, wide-kit, wide-swaps, widened-finished, cut-finished}

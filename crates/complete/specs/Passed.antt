@@ -1,27 +1,26 @@
 -- What the tests of what is lent show where all are passed: a kit and a sheet as the theorems ask.
 -- Assumes nothing.
-use Prim.Native.Nat.{ℕ, zero, _+_, _*_, _≤_, _<_}
-use mathlib.Core.Path.{_≡_, refl, sym, ap, subst}
-use mathlib.Core.List.{List, [], _∷_}
+use Prim.Native.Nat.{ℕ, _+_, _*_, _≤_, _<_}
+use mathlib.Core.Path.{_≡_, sym, ap, subst}
+use mathlib.Core.List.{List}
 use native.Mathlib.Omega.{arith}
-use native.Mathlib.Nat.{le-refl}
 use lib.ListN.{length}
 use lib.IntN.{ℤ}
 use Rattle.terms.specs.declared.Refusal.{Refusal}
 use Rattle.terms.specs.Limits.{KindsFine, BoundFine, most-swaps, most-rows}
 use Rattle.terms.specs.Swaps.{Swap}
 use Rattle.terms.specs.Flat.{swapAt, rowsLent, sheetOf}
-use Rattle.terms.specs.Outcome.{inTurn, Outcome}
+use Rattle.terms.specs.Outcome.{Outcome}
 use Rattle.laws.specs.Outcome.{AllHold, Never, passed, never-turns, turns-hold}
 use Rattle.laws.specs.Load.{all-map}
-use Rattle.laws.specs.Flat.{row-in, rows-in, left-long, right-long, in-numbered}
+use Rattle.laws.specs.Flat.{row-in, left-long, right-long, in-numbered}
 use Rattle.bridge.specs.Rows.{IsSwap, IsSheet}
 use Rattle.bridge.specs.Regular.{IsKit}
 use Rattle.loads.specs.Lent.{Lent}
 use Rattle.padding.specs.Widen.{FineKit}
 use Rattle.complete.specs.declared.Completed.{Completed}
 use Rattle.complete.specs.declared.Completed.the-variants.{Rows, Refused}
-use Rattle.complete.specs.Call.{Lengths, swapTests, inputTests}
+use Rattle.complete.specs.Call.{swapTests, inputTests}
 
 -- a kit, a bound and a sheet that have passed
 pub record Fit (n bound : ℕ) (sizes : List ℕ) (costs : List ℤ) (swaps : List ℕ) : Type 0 where
