@@ -1,5 +1,5 @@
 -- A row of a flat table as one part, and a table with one row more. Assumes nothing.
-use Prim.Native.Nat.{ℕ, zero, suc, _+_, _*_, _-_, _<_, _≤_}
+use Prim.Native.Nat.{ℕ, _+_, _*_, _-_, _<_, _≤_}
 use mathlib.Core.Path.{_≡_, sym, ap, _∙_}
 use borrow.Rule.Slice.PartMut.{putMid, drop-put}
 use mathlib.Core.List.{List, [], _∷_, _++_}
@@ -10,6 +10,7 @@ use lib.ListN.{length, take, drop, length-take, length-drop}
 use lib.Seq.{take-add, drop-drop}
 use Rattle.terms.specs.Flat.{leftAt, rightAt, numbered}
 use Rattle.laws.specs.Flat.{part-is}
+use Rattle.laws.specs.Laid.{numbered-more}
 
 -- item i of `count` items of w numbers lies within the list
 pub item-in : (w count i long : ℕ) → i < count → count * w ≤ long → i * w + w ≤ long
@@ -47,14 +48,7 @@ module _ (w i : ℕ) (xs xs₀ : List ℕ) (same : drop (i * w) xs ≡ drop (i *
 pub item-long : (w i : ℕ) (xs : List ℕ) → i * w + w ≤ length xs → length (take (i * w + w - i * w) (drop (i * w) xs)) ≡ w
 item-long w i xs h = simp (length-take, length-drop) (omega arith)
 
-numbered-suc : {A : Type 0} (item : ℕ → A) (from k : ℕ) → numbered item from (suc k) ≡ numbered item from k ++ (item (from + k) ∷ [])
-numbered-suc item from zero = ap (λ (i : ℕ). item i ∷ []) (omega arith)
-numbered-suc {A} item from (suc k) =
-    let e : suc from + k ≡ from + suc k = omega arith in
-    ap (λ (l : List A). item from ∷ l) (numbered-suc item (suc from) k)
-    ∙ ap (λ (i : ℕ). item from ∷ (numbered item (suc from) k ++ (item i ∷ []))) e
-
 -- the first k + 1 items
 pub numbered-next : {A : Type 0} (item : ℕ → A) (k : ℕ) → numbered item 0 (k + 1) ≡ numbered item 0 k ++ (item k ∷ [])
 numbered-next {A} item k =
-    ap (numbered item 0) (add-one k) ∙ numbered-suc item 0 k ∙ ap (λ (i : ℕ). numbered item 0 k ++ (item i ∷ [])) (zero-add k)
+    ap (numbered item 0) (add-one k) ∙ numbered-more item 0 k ∙ ap (λ (i : ℕ). numbered item 0 k ++ (item i ∷ [])) (zero-add k)
