@@ -24,6 +24,7 @@ use Rattle.bridge.specs.Regular.{Regular, reaches-regular}
 use Rattle.bridge.specs.Theorems.{finished-sides, finished-proper}
 use Rattle.loads.specs.Lent.{Lent}
 use Rattle.settle.specs.declared.Settled.the-variants.{Refused as SettleRefused}
+use Rattle.settle.specs.Ready.{Ready}
 use Rattle.settle.specs.Call.{rowTest, tests}
 use Rattle.complete.specs.declared.Completed.{Completed}
 use Rattle.complete.specs.declared.Completed.the-variants.{Rows, Refused}
@@ -133,3 +134,17 @@ module _ {n bound : ℕ} {sizes : List ℕ} {costs : List ℤ} {swaps rules : Li
       ),
     ),
   )
+
+  -- so a whole show may be settled by it with no further test of it
+  pub table-ready : Ready n bound sizes costs table r
+  table-ready = record {
+    kinds = lent-fit .kinds;
+    bounded = lent-fit .bounded;
+    sizes-long = lent-fit .kit .sized;
+    sizes-fine = lent-fit .kit .sizes-fine;
+    in-use = omega (arith, ap (λ (k : ℕ). k * (2 * n)) rows-are, mul-le-mul-right (2 * n) few, rules-lent .whole, long);
+    proper = proper-at;
+  }
+
+  pub rows-few : r ≤ 256
+  rows-few = omega (arith, rows-are, few, rules-lent .room)
