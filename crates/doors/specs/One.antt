@@ -9,9 +9,11 @@ use borrow.Author.Tests.{eqb-true, eqb-false}
 use Rattle.terms.specs.Order.{Before}
 use Rattle.laws.specs.Order.{before?}
 use Rattle.compare.specs.Earlier.{Fine}
+use Rattle.complete.specs.declared.Completed.{Completed}
+use Rattle.promises.specs.Promises.{one-completion}
 use Rattle.settle.specs.declared.Settled.{Settled}
 use Rattle.settle.specs.Call.{settling-one}
-use Rattle.doors.specs.Answers.{EarlierIs, settleNumber, settlePlace, SettleIs}
+use Rattle.doors.specs.Answers.{EarlierIs, completeNumber, completePlace, CompleteIs, settleNumber, settlePlace, SettleIs}
 
 -- numbers that cannot differ are the same
 stable : (a b : ℕ) → ((a ≡ b → ⊥) → ⊥) → a ≡ b
@@ -38,4 +40,13 @@ settle-is-one n bound sizes costs rules rows load r s after after′ place place
       p .number ∙ ap settleNumber a ∙ sym (q .number),
       ap (λ (o : Settled × List ℕ). o .1) e,
       p .at ∙ ap settlePlace a ∙ sym (q .at),
+    )
+
+pub complete-is-one : (n bound : ℕ) (sizes : List ℕ) (costs : List ℤ) (swaps rules : List ℕ) (r s : ℕ) (after after′ : List ℕ) (place place′ : ℕ) → CompleteIs n bound sizes costs swaps rules r after place → CompleteIs n bound sizes costs swaps rules s after′ place′ → (r ≡ s) × (after ≡ after′) × (place ≡ place′)
+complete-is-one n bound sizes costs swaps rules r s after after′ place place′ p q =
+    let e = one-completion n bound sizes costs swaps rules (p .answer, after) (q .answer, after′) (p .made) (q .made) in
+    let a : p .answer ≡ q .answer = ap (λ (o : Completed × List ℕ). o .0) e in (
+      p .number ∙ ap completeNumber a ∙ sym (q .number),
+      ap (λ (o : Completed × List ℕ). o .1) e,
+      p .at ∙ ap completePlace a ∙ sym (q .at),
     )

@@ -1,9 +1,11 @@
 // The calls of the library for programs in other languages: plain numbers and slices (a pointer, then how many elements).
 // No call has a `requires`; include/kitsettle.h says the same in C.
+use complete::Completed;
 use settle::Settled;
 use terms::Kit;
 ghost use mathlib.Core.Path.{_≡_};
-ghost use Rattle.doors.specs.Answers.{EarlierIs, SettleIs, settleNumber, settlePlace};
+ghost use Rattle.doors.specs.Answers.{EarlierIs, CompleteIs, SettleIs};
+ghost use Rattle.doors.specs.Answers.{completeNumber, completePlace, settleNumber, settlePlace};
 
 // 1 or 2, the load that comes first; 0 where the input is refused.
 #[no_mangle]
@@ -22,6 +24,42 @@ pub extern "C" fn kitsettle_earlier(
         return 2;
     }
     1
+}
+
+fn complete_number(a: Completed) -> u32
+    ensures { λ r. ⌜ r ≡ completeNumber a ⌝ }
+{
+    match a {
+        Completed::Rows(_) => 0,
+        Completed::Refused(why, _) => numbers::number(why),
+    }
+}
+
+fn complete_place(a: Completed) -> usize
+    ensures { λ r. ⌜ r ≡ completePlace a ⌝ }
+{
+    match a {
+        Completed::Rows(rows) => rows,
+        Completed::Refused(_, place) => place,
+    }
+}
+
+// 0 and the number of rows at `place`; or the refusal number, with its place there.
+#[no_mangle]
+pub extern "C" fn kitsettle_complete(
+    kinds: usize,
+    bound: usize,
+    sizes: &[u16],
+    costs: &[i32],
+    swaps: &[u16],
+    rules: &mut [u16],
+    place: &mut usize,
+) -> u32
+    ensures { λ r. ⌜ CompleteIs kinds bound (now (sizes .entry)) (now (costs .entry)) (now (swaps .entry)) (now (rules .entry)) r (now (rules .exit)) (now (place .exit)) ⌝ }
+{
+    let a = complete::complete(Kit::of(kinds, bound), sizes, costs, swaps, rules);
+    *place = complete_place(a);
+    complete_number(a)
 }
 
 fn settle_number(a: Settled) -> u32
