@@ -12,7 +12,7 @@ use Rattle.compare.specs.Earlier.{Fine}
 use Rattle.complete.specs.declared.Completed.{Completed}
 use Rattle.promises.specs.Promises.{one-completion}
 use Rattle.settle.specs.declared.Settled.{Settled}
-use Rattle.settle.specs.Call.{settling-one}
+use Rattle.settle.specs.One.{settling-one}
 use Rattle.doors.specs.Answers.{EarlierIs, completeNumber, completePlace, CompleteIs, settleNumber, settlePlace, SettleIs}
 
 -- numbers that cannot differ are the same
