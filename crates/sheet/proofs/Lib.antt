@@ -1,0 +1,4 @@
+pub mod Blocks
+pub mod Clears
+pub mod Texts
+pub mod One
