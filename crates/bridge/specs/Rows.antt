@@ -8,6 +8,7 @@ use lib.ListN.{length}
 use Rattle.terms.specs.Load.{grade}
 use Rattle.terms.specs.Swaps.{_∈_, Swap}
 use Rattle.terms.specs.Table.{Row}
+use Rattle.laws.specs.Flat.{Sides, Sided}
 use Rattle.theory.specs.Rows.{Row as RowOf, row}
 use Rattle.bridge.specs.Instance.{Load, load-path}
 use Rattle.bridge.specs.Carry.{mem-map, raised, raised-down}
@@ -19,14 +20,6 @@ plain a = record { head = a .head .0; tail = a .tail .0 }
 
 abbrev pub plain-table : {n : ℕ} → List (RowOf (Load n)) → List Row
 plain-table = map plain
-
--- both sides of a row have n counts
-pub record Sides (n : ℕ) (a : Row) : Type 0 where
-  pub of-head : length (a .head) ≡ n
-  pub of-tail : length (a .tail) ≡ n
-
-abbrev pub Sided : ℕ → List Row → Type 0
-Sided n T = (a : Row) → a ∈ T → Sides n a
 
 abbrev pub loads-row : {n : ℕ} (a : Row) → Sides n a → RowOf (Load n)
 loads-row a w = row (a .head, w .of-head) (a .tail, w .of-tail)

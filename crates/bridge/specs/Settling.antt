@@ -3,7 +3,7 @@
 use Prim.Native.Nat.{ℕ, zero, suc, _≤_, _<_}
 use mathlib.Core.Path.{_≡_, refl, ap, sym, subst, _∙_}
 use mathlib.Core.Logic.{_⊎_, inl, inr}
-use mathlib.Core.List.{List, _∷_, List·Memᴰ·head, List·Memᴰ·tail}
+use mathlib.Core.List.{List, _∷_}
 use native.Mathlib.Omega.{arith}
 use lib.ListN.{length}
 use lib.IntN.{ℤ}
@@ -14,6 +14,7 @@ use Rattle.terms.specs.Table.{Row}
 use Rattle.terms.specs.Settling.{Proper, NoneFits, FirstFit, FirstFit.hit, FirstFit.miss, Settles, Settles.done, Settles.next, Leads, Leads.stop, Leads.more}
 use Rattle.laws.specs.Load.{From}
 use Rattle.laws.specs.Order.{OrderLaws}
+use Rattle.laws.specs.Falls.{first-fit-in}
 use Rattle.theory.specs.Kit.{Kit}
 use Rattle.theory.specs.Rows.{Row as RowOf, AllProper, Irr, First, First.hit as fits-here, First.miss as fits-later, first?, first-mem, first-fits, step-rank, Steps, Steps.stop as in-place, Steps.more as onwards}
 use Rattle.theory.specs.Settle.{nf, nf-irr, nf-first}
@@ -23,10 +24,6 @@ use Rattle.bridge.specs.Rows.{plain, plain-table}
 use Rattle.bridge.specs.Reach.{step-up, step-down}
 
 -- ---- one end, whatever the table
-
-pub first-fit-in : {x : List ℕ} {a : Row} {T : List Row} → FirstFit x a T → a ∈ T
-first-fit-in (hit e f) = List·Memᴰ·head e
-first-fit-in (miss n r) = List·Memᴰ·tail (first-fit-in r)
 
 pub first-fit-fits : {x : List ℕ} {a : Row} {T : List Row} → FirstFit x a T → Fits (a .head) x
 first-fit-fits (hit e f) = f

@@ -14,6 +14,7 @@ use Rattle.terms.specs.Swaps.{Reaches}
 use Rattle.terms.specs.Table.{FirstReached, Settled, Head, Row, Above, Finished}
 use Rattle.laws.specs.Load.{From, unit}
 use Rattle.laws.specs.Order.{OrderLaws, Which, Which.first, Which.equal, Which.second, lex-irrefl, lex-trans, lex-compare}
+use Rattle.laws.specs.Flat.{Sided}
 use Rattle.theory.specs.Kit.{Kit}
 use Rattle.theory.specs.Rows.{Row as RowOf}
 use Rattle.theory.specs.Table.{Alike, Settled as SettledIn, Head as HeadIn}
@@ -23,7 +24,7 @@ use Rattle.theory.specs.Finished.{Strict, Finished as FinishedIn}
 use Rattle.bridge.specs.Instance.{Load, load-path, sum, Part, the-kit}
 use Rattle.bridge.specs.Carry.{mem-map, mem-unmap, sorted-up, sorted-down}
 use Rattle.bridge.specs.Loads.{kind-of-part, length-without, without-back, back-without, part-there}
-use Rattle.bridge.specs.Rows.{plain, plain-table, plain-sheet, Sided, loads-table, plain-loads}
+use Rattle.bridge.specs.Rows.{plain, plain-table, plain-sheet, loads-table, plain-loads}
 use Rattle.bridge.specs.Reach.{reaches-up, reaches-down}
 
 -- ---- the order of heads at one grade

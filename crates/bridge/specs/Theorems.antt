@@ -22,12 +22,13 @@ use Rattle.terms.specs.Swaps.{_∈_, Swap, Reaches}
 use Rattle.terms.specs.Table.{FirstReached, Head, Row, Sorted, Finished}
 use Rattle.terms.specs.Settling.{Proper, NoneFits, Settles, Leads}
 use Rattle.laws.specs.Order.{before-laws}
+use Rattle.laws.specs.Flat.{Sided}
 use Rattle.theory.specs.Rows.{Row as RowOf, AllProper}
 use Rattle.theory.specs.Finished.{finished-some, finished-one}
 use Rattle.theory.specs.Room.{distinct-le}
 use Rattle.bridge.specs.Instance.{Load}
 use Rattle.bridge.specs.Carry.{in-order, mem-unmap}
-use Rattle.bridge.specs.Rows.{plain, plain-table, Sided, loads-table, plain-loads, IsSheet, loads-sheet, loads-even}
+use Rattle.bridge.specs.Rows.{plain, plain-table, loads-table, plain-loads, IsSheet, loads-sheet, loads-even}
 use Rattle.bridge.specs.Tables.{ByCounts, by-counts, finished-sided}
 use Rattle.bridge.specs.Settling.{settles-one, proper-up}
 use Rattle.bridge.specs.Regular.{IsKit, Regular, kit-of, OfLoads, regular-alike, regular-matches}

@@ -8,14 +8,14 @@ use native.Mathlib.Omega.{arith}
 use lib.ListN.{length, getD}
 use Rattle.terms.specs.Load.{grade}
 use Rattle.terms.specs.Swaps.{_∈_}
-use Rattle.terms.specs.Flat.{leftAt, rightAt, swapAt, numbered, tableOf}
+use Rattle.terms.specs.Flat.{leftAt, rightAt, swapAt, tableOf}
+use Rattle.laws.specs.Numbered.{numbered-in}
 use Rattle.theory.specs.Rows.{Row as RowOf}
 use Rattle.theory.specs.Grow.{new-proper}
-use Rattle.theory.specs.Index.{at-mem}
 use Rattle.rack.specs.Racked.{Sound, Loaded}
 use Rattle.bridge.specs.Instance.{Load}
 use Rattle.bridge.specs.Rows.{IsSwap}
-use Rattle.growth.specs.Setting.{KitOf, RelOf, alike-of, numbered-length, item-at}
+use Rattle.growth.specs.Setting.{KitOf, RelOf, alike-of}
 use Rattle.growth.specs.Grade.{Grows, grows-none, grows-map, SwapsJoined}
 use Rattle.growth.specs.Turns.{swap-turn, swap-skip}
 use Rattle.growth.specs.End.{racked-of}
@@ -59,8 +59,7 @@ module _ {weights swaps stamps : List ℕ} {count g : ℕ} where
     module _ (k : ℕ) (l : k < count) where
       is-swap : IsSwap 12 (w .sizes) (swapAt 12 swaps k)
       is-swap =
-          let there = at-mem (swapAt 12 swaps 0) (numbered (swapAt 12 swaps) 0 count) k (omega (arith, numbered-length (swapAt 12 swaps) 0 count)) in
-          w .working .setting .sheet (swapAt 12 swaps k) (subst (λ z. z ∈ numbered (swapAt 12 swaps) 0 count) (item-at (swapAt 12 swaps) (swapAt 12 swaps 0) count k l) there)
+          w .working .setting .sheet (swapAt 12 swaps k) (numbered-in (swapAt 12 swaps) count k l)
 
       pub due-grade : getD stamps k 0 ≡ g → grade (w .sizes) (leftAt 12 swaps k) ≡ g
       due-grade e = stamp-grade (w .bound) (grade (w .sizes) (leftAt 12 swaps k)) g (w .some) (w .bounded) (sym (w .working .stamped k l) ∙ e)

@@ -13,7 +13,7 @@ use Rattle.terms.specs.Order.{Lex}
 use Rattle.terms.specs.Swaps.{_∈_}
 use Rattle.terms.specs.Table.{Row}
 use Rattle.terms.specs.Flat.{leftAt, rowAt, tableOf}
-use Rattle.laws.specs.Flat.{row-in, left-long, right-long}
+use Rattle.laws.specs.Flat.{table-sided}
 use Rattle.theory.specs.Kit.{Kit}
 use Rattle.theory.specs.Rows.{Row as RowOf}
 use Rattle.theory.specs.Unique.{Sorted, Sorted.none, Sorted.next}
@@ -24,9 +24,9 @@ use Rattle.rack.specs.Rows.{SortedFrom}
 use Rattle.rack.proofs.Sorting.{sorted-kept, sorted-from, sorted-into, sorted-strict}
 use Rattle.pairs.specs.Pairs.{PairList}
 use Rattle.bridge.specs.Instance.{Load, load-path}
-use Rattle.bridge.specs.Rows.{plain-table, plain-one, Sides, Sided, loads-table, plain-loads}
+use Rattle.bridge.specs.Rows.{plain-table, plain-one, loads-table, plain-loads}
 use Rattle.bridge.specs.Tables.{ByCounts}
-use Rattle.growth.specs.Setting.{KitOf, RelOf, alike-of, numbered-length, item-at, table-long, row-is}
+use Rattle.growth.specs.Setting.{KitOf, RelOf, alike-of, table-long, row-is}
 use Rattle.growth.specs.Grade.{no-row, SwapsJoined, PairsJoined}
 use Rattle.growth.specs.End.{grade-end}
 use Rattle.growth.specs.State.{AtGrade, Within, TailsDone}
@@ -45,16 +45,6 @@ at-sorted P d (a ∷ l) h =
     next {l = l} (λ b m. let r = mem-at d m in subst (P a) (r .2) (h 0 (suc (r .0)) (omega arith) (omega (arith, r .1))))
     (at-sorted P d l (λ i j x y. h (suc i) (suc j) (omega arith) (omega arith)))
 
--- ---- the sides of the working table's rows have 12 counts
-
-pub sided-of : (table : List ℕ) (rows : ℕ) → rows * 24 ≤ length table → Sided 12 (tableOf 12 table rows)
-sided-of table rows h a m =
-    let r = mem-at (rowAt 12 table 0) m in
-    let l : r .0 < rows = subst (λ (k : ℕ). r .0 < k) (numbered-length (rowAt 12 table) 0 rows) (r .1) in
-    let e : rowAt 12 table (r .0) ≡ a = sym (item-at (rowAt 12 table) (rowAt 12 table 0) rows (r .0) l) ∙ r .2 in
-    let lies : r .0 * (2 * 12) + 2 * 12 ≤ length table = row-in 12 rows (r .0) (length table) l h in
-    subst (Sides 12) e record { of-head = left-long 12 table (r .0) lies; of-tail = right-long 12 table (r .0) lies }
-
 module _ {weights swaps stamps : List ℕ} {count g : ℕ} {table : List ℕ} {rows : ℕ} (w : Within weights swaps stamps count g table rows) (settled : List ℕ) (t : TailsDone w settled) (after : List ℕ) (was : rows * 24 ≤ length settled) (room : rows * 24 ≤ length after) (base : ℕ) (low-long : length (w .low) ≡ base) (sorted : SortedFrom base rows settled after) where
   abbrev K : Kit
   K = KitOf weights (w .working .setting)
@@ -66,10 +56,10 @@ module _ {weights swaps stamps : List ℕ} {count g : ℕ} {table : List ℕ} {r
   old = w .low ++ t .now-rows
 
   abbrev U : List (RowOf (Load 12))
-  U = loads-table (tableOf 12 after rows) (sided-of after rows room)
+  U = loads-table (tableOf 12 after rows) (table-sided 12 rows after room)
 
   now-is : plain-table U ≡ tableOf 12 after rows
-  now-is = plain-loads (tableOf 12 after rows) (sided-of after rows room)
+  now-is = plain-loads (tableOf 12 after rows) (table-sided 12 rows after room)
 
   old-long : length old ≡ rows
   old-long = table-long old no-row settled rows (t .is)

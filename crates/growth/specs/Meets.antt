@@ -2,7 +2,7 @@
 -- Assumes nothing.
 use Prim.Native.Nat.{ℕ}
 use mathlib.Core.Path.{_≡_, refl, ap, sym, subst, _∙_}
-use mathlib.Core.List.{List, [], _∷_, _++_, append-assoc}
+use mathlib.Core.List.{List, [], _∷_, _++_, append-assoc, map-append}
 use lib.ListN.{length}
 use Rattle.terms.specs.Load.{grade}
 use Rattle.terms.specs.Order.{Before}
@@ -21,7 +21,7 @@ use Rattle.bridge.specs.Instance.{Load, load-path, sum}
 use Rattle.bridge.specs.Rows.{plain, plain-table}
 use Rattle.bridge.specs.Reach.{step-up}
 use Rattle.bridge.specs.Settling.{first-up, none-up}
-use Rattle.rack.specs.Walks.{Walks, Walks.stop, Walks.more}
+use Rattle.laws.specs.Strides.{Walks, Walks.stop, Walks.more}
 use Rattle.rack.specs.Racked.{costsOf}
 use Rattle.growth.specs.Setting.{Setting, KitOf, RelOf, alike-of}
 
@@ -33,10 +33,6 @@ pub data Meets (weights : List ℕ) (T : List Row) (x y : List ℕ) (U : List Ro
   met : (z : List ℕ) → Walks T x z → Walks T y z → U ≡ T → Meets weights T x y U
   new-first : (u v : List ℕ) → Walks T x u → Walks T y v → Before (costsOf weights) v u → NoneFits T u → U ≡ T ++ rowOf u v ∷ [] → Meets weights T x y U
   new-second : (u v : List ℕ) → Walks T x u → Walks T y v → Before (costsOf weights) u v → NoneFits T v → U ≡ T ++ rowOf v u ∷ [] → Meets weights T x y U
-
-plain-append : (T N : List (RowOf (Load 12))) → plain-table (T ++ N) ≡ plain-table T ++ plain-table N
-plain-append [] N = refl
-plain-append (a ∷ T) N = ap (λ (l : List Row). plain a ∷ l) (plain-append T N)
 
 module _ {bound : ℕ} {sizes swaps : List ℕ} {count : ℕ} (weights : List ℕ) (s : Setting bound sizes swaps count) (g : ℕ) (T₀ : List (RowOf (Load 12))) where
   abbrev K : Kit
@@ -90,7 +86,7 @@ module _ {bound : ℕ} {sizes swaps : List ℕ} {count : ℕ} (weights : List �
           let assoc : (T₀ ++ N) ++ row u v ∷ [] ≡ T₀ ++ (N ++ row u v ∷ []) = append-assoc T₀ N (row u v ∷ []) in
           record {
             rows = N ++ row u v ∷ [];
-            is = ap plain-table (sym assoc) ∙ plain-append (T₀ ++ N) (row u v ∷ []) ∙ sym e;
+            is = ap plain-table (sym assoc) ∙ map-append plain (T₀ ++ N) (row u v ∷ []) ∙ sym e;
             later = o .0;
             apart = subst Apart assoc (apart-push K R (alike-of weights s) (T₀ ++ N) u v irr ap₀);
             joined = o .1;
@@ -103,7 +99,7 @@ module _ {bound : ℕ} {sizes swaps : List ℕ} {count : ℕ} (weights : List �
           let assoc : (T₀ ++ N) ++ row v u ∷ [] ≡ T₀ ++ (N ++ row v u ∷ []) = append-assoc T₀ N (row v u ∷ []) in
           record {
             rows = N ++ row v u ∷ [];
-            is = ap plain-table (sym assoc) ∙ plain-append (T₀ ++ N) (row v u ∷ []) ∙ sym e;
+            is = ap plain-table (sym assoc) ∙ map-append plain (T₀ ++ N) (row v u ∷ []) ∙ sym e;
             later = o .0;
             apart = subst Apart assoc (apart-push K R (alike-of weights s) (T₀ ++ N) v u irr ap₀);
             joined = o .1;

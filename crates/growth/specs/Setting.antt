@@ -1,14 +1,14 @@
 -- The kit of 12 kinds that completion works on: its sheet, its relation, and its working table in the theory.
 -- Assumes nothing.
-use Prim.Native.Nat.{ℕ, zero, suc, _+_, _≤_, _<_}
-use mathlib.Core.Path.{_≡_, refl, ap, sym, _∙_}
-use mathlib.Core.List.{List, [], _∷_, map}
-use native.Mathlib.Omega.{arith}
-use lib.ListN.{length, getD}
+use Prim.Native.Nat.{ℕ, _≤_, _<_}
+use mathlib.Core.Path.{_≡_, ap, sym, _∙_}
+use mathlib.Core.List.{List, map}
+use lib.ListN.{length, getD, length-map as list-map, List·getD-map}
 use Rattle.terms.specs.Load.{grade}
 use Rattle.terms.specs.Swaps.{_∈_, Swap}
 use Rattle.terms.specs.Table.{Row}
 use Rattle.terms.specs.Flat.{leftAt, rightAt, numbered, swapAt, rowAt, tableOf}
+use Rattle.laws.specs.Numbered.{numbered-long, item-at}
 use Rattle.theory.specs.Kit.{Kit}
 use Rattle.theory.specs.Rows.{Row as RowOf}
 use Rattle.theory.specs.Table.{Alike}
@@ -24,37 +24,18 @@ pub record Setting (bound : ℕ) (sizes swaps : List ℕ) (count : ℕ) : Type 0
   pub small : bound ≤ 1000
   pub sheet : IsSheet 12 sizes (numbered (swapAt 12 swaps) 0 count)
 
--- ---- items by their number
-
-pub numbered-length : {A : Type 0} (item : ℕ → A) (from k : ℕ) → length (numbered item from k) ≡ k
-numbered-length item from zero = refl
-numbered-length item from (suc k) = ap suc (numbered-length item (suc from) k)
-
-pub numbered-at : {A : Type 0} (item : ℕ → A) (d : A) (from k i : ℕ) → i < k → getD (numbered item from k) i d ≡ item (from + i)
-numbered-at item d from zero i l = absurd (omega arith)
-numbered-at item d from (suc k) zero l = ap item (omega arith)
-numbered-at item d from (suc k) (suc i) l = numbered-at item d (suc from) k i (omega arith) ∙ ap item (omega arith)
-
-pub item-at : {A : Type 0} (item : ℕ → A) (d : A) (k i : ℕ) → i < k → getD (numbered item 0 k) i d ≡ item i
-item-at item d k i l = numbered-at item d 0 k i l ∙ ap item (omega arith)
-
-pub getD-map : {A B : Type 0} (f : A → B) (l : List A) (i : ℕ) (d : A) → f (getD l i d) ≡ getD (map f l) i (f d)
-getD-map f [] i d = refl
-getD-map f (a ∷ l) zero d = refl
-getD-map f (a ∷ l) (suc i) d = getD-map f l i d
-
+-- as `complete` cites it
 pub length-map : {A B : Type 0} (f : A → B) (l : List A) → length (map f l) ≡ length l
-length-map f [] = refl
-length-map f (a ∷ l) = ap suc (length-map f l)
+length-map f l = list-map l f
 
 -- ---- rows of the working table, by their number
 
 module _ (T : List (RowOf (Load 12))) (d : RowOf (Load 12)) (table : List ℕ) (rows : ℕ) (e : plain-table T ≡ tableOf 12 table rows) where
   pub table-long : length T ≡ rows
-  table-long = sym (length-map plain T) ∙ ap length e ∙ numbered-length (rowAt 12 table) 0 rows
+  table-long = sym (list-map T plain) ∙ ap length e ∙ numbered-long (rowAt 12 table) 0 rows
 
   pub row-is : (i : ℕ) → i < rows → plain (getD T i d) ≡ rowAt 12 table i
-  row-is i l = getD-map plain T i d ∙ ap (λ (U : List Row). getD U i (plain d)) e ∙ item-at (rowAt 12 table) (plain d) rows i l
+  row-is i l = sym (List·getD-map plain T i d) ∙ ap (λ (U : List Row). getD U i (plain d)) e ∙ item-at (rowAt 12 table) (plain d) rows i l
 
   pub head-is : (i : ℕ) → i < rows → getD T i d .head .0 ≡ leftAt 12 table i
   head-is i l = ap (λ (a : Row). a .head) (row-is i l)
@@ -84,11 +65,11 @@ module _ {bound : ℕ} {sizes swaps : List ℕ} {count : ℕ} (weights : List �
   sheet-is = plain-loads-sheet sizes (numbered (swapAt 12 swaps) 0 count) (s .sheet)
 
   pub sheet-long : length SheetOf ≡ count
-  sheet-long = sym (length-map plain-swap SheetOf) ∙ ap length sheet-is ∙ numbered-length (swapAt 12 swaps) 0 count
+  sheet-long = sym (list-map SheetOf plain-swap) ∙ ap length sheet-is ∙ numbered-long (swapAt 12 swaps) 0 count
 
   module _ (e : Load 12 × Load 12) (k : ℕ) (l : k < count) where
     pub swap-is : plain-swap (getD SheetOf k e) ≡ swapAt 12 swaps k
-    swap-is = getD-map plain-swap SheetOf k e ∙ ap (λ (U : List Swap). getD U k (plain-swap e)) sheet-is ∙ item-at (swapAt 12 swaps) (plain-swap e) count k l
+    swap-is = sym (List·getD-map plain-swap SheetOf k e) ∙ ap (λ (U : List Swap). getD U k (plain-swap e)) sheet-is ∙ item-at (swapAt 12 swaps) (plain-swap e) count k l
 
     pub left-is : getD SheetOf k e .0 .0 ≡ leftAt 12 swaps k
     left-is = ap (λ (a : Swap). a .left) swap-is

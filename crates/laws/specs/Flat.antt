@@ -1,14 +1,16 @@
 -- Where the rows of a flat table lie.
 -- Assumes nothing.
-use Prim.Native.Nat.{ℕ, zero, suc, _+_, _*_, _-_, _/_, _<_, _≤_}
-use mathlib.Core.Path.{_≡_, ap, subst, _∙_}
-use mathlib.Core.Logic.{⊎-elim}
-use mathlib.Core.List.{List, List·Memᴰ·head, List·Memᴰ·tail, List·Memᴰ·not-nil, List·Memᴰ·cases-cons}
+use Prim.Native.Nat.{ℕ, _+_, _*_, _-_, _/_, _<_, _≤_}
+use mathlib.Core.Path.{_≡_, sym, subst}
+use mathlib.Core.List.{List}
 use native.Mathlib.Omega.{arith}
 use native.Mathlib.Nat.{mul-le-mul-right, suc-mul, add-sub-cancel-left, mul-div-cancel}
 use lib.ListN.{length, take, drop, length-take, length-drop}
 use Rattle.terms.specs.Swaps.{_∈_}
-use Rattle.terms.specs.Flat.{leftAt, rightAt, numbered}
+use Rattle.terms.specs.Table.{Row}
+use Rattle.terms.specs.Flat.{leftAt, rightAt, rowAt, tableOf}
+use Rattle.laws.specs.Numbered.{in-numbered as item-of}
+pub use Rattle.laws.specs.Numbered.{in-from as in-numbered}
 
 -- row r of `rows` rows lies within the table
 pub row-in : (n rows r len : ℕ) → r < rows → rows * (2 * n) ≤ len → r * (2 * n) + 2 * n ≤ len
@@ -34,18 +36,20 @@ rows-are n len k l e = rw e (mul-div-cancel k (omega arith))
 pub rows-in : (n rows len : ℕ) → rows ≤ len / (2 * n) → (len / (2 * n)) * (2 * n) ≡ len → rows * (2 * n) ≤ len
 rows-in n rows len l e = omega (arith, mul-le-mul-right (2 * n) l)
 
--- what stands among the items numbered from `from` on, k of them
-module _ {A : Type 0} (item : ℕ → A) where
-  pub in-numbered : (from k : ℕ) {a : A} → a ∈ numbered item from k → (i : ℕ) × (i < k) × (a ≡ item (from + i))
-  in-numbered from zero m = absurd (List·Memᴰ·not-nil m)
-  in-numbered from (suc k) {a} m =
-      ⊎-elim
-      (λ (e : a ≡ item from). (0, omega arith, e ∙ ap item (omega arith)))
-      (λ (w : a ∈ numbered item (suc from) k). let t = in-numbered (suc from) k w in (suc (t .0), omega arith, t .2 ∙ ap item (omega arith)))
-      (List·Memᴰ·cases-cons m)
+-- both sides of a row have n counts
+pub record Sides (n : ℕ) (a : Row) : Type 0 where
+  pub of-head : length (a .head) ≡ n
+  pub of-tail : length (a .tail) ≡ n
 
-  pub numbered-in : (from k i : ℕ) → i < k → item (from + i) ∈ numbered item from k
-  numbered-in from zero i l = absurd (omega arith)
-  numbered-in from (suc k) zero l = let e : from + 0 ≡ from = omega arith in List·Memᴰ·head (ap item e)
-  numbered-in from (suc k) (suc i) l =
-      List·Memᴰ·tail (subst (λ (j : ℕ). item j ∈ numbered item (suc from) k) (omega arith) (numbered-in (suc from) k i (omega arith)))
+-- so of each row
+abbrev pub Sided : ℕ → List Row → Type 0
+Sided n T = (a : Row) → a ∈ T → Sides n a
+
+-- the rows of a flat table are so
+pub row-sides : (n : ℕ) (flat : List ℕ) (r : ℕ) → r * (2 * n) + 2 * n ≤ length flat → Sides n (rowAt n flat r)
+row-sides n flat r lies = record { of-head = left-long n flat r lies; of-tail = right-long n flat r lies }
+
+pub table-sided : (n rows : ℕ) (flat : List ℕ) → rows * (2 * n) ≤ length flat → Sided n (tableOf n flat rows)
+table-sided n rows flat h a m =
+    let t = item-of (rowAt n flat) rows m in
+    subst (Sides n) (sym (t .2)) (row-sides n flat (t .0) (row-in n rows (t .0) (length flat) (t .1) h))

@@ -4,8 +4,8 @@
 --     lay-side           a side written where only 0 follows, up to the m numbers that it has
 --     filled-more        two sides written after the rows so far are one row more
 -- Assumes nothing.
-use Prim.Native.Nat.{ℕ, zero, suc, _+_, _*_, _-_, _≤_, _<_}
-use mathlib.Core.Path.{_≡_, refl, sym, ap, ap₂, subst, _∙_}
+use Prim.Native.Nat.{ℕ, zero, suc, _+_, _*_, _-_, _≤_}
+use mathlib.Core.Path.{_≡_, refl, sym, ap, ap₂, _∙_}
 use mathlib.Core.List.{List, [], _∷_, _++_, map, append-assoc, append-nil}
 use native.Mathlib.Omega.{arith}
 use native.Mathlib.Nat.{zero-mul, suc-mul}
@@ -16,47 +16,16 @@ use Rattle.terms.specs.Limits.{All}
 use Rattle.terms.specs.Table.{Row}
 use Rattle.terms.specs.Swaps.{Swap}
 use Rattle.terms.specs.Flat.{numbered, rowAt, swapAt, tableOf, laid, filled}
-
--- ---- numbered items
-
-pub numbered-on : {A : Type 0} (f : ℕ → A) (from k : ℕ) → numbered f (suc from) k ≡ numbered (λ i. f (suc i)) from k
-numbered-on f from zero = refl
-numbered-on f from (suc k) = ap (λ l. f (suc from) ∷ l) (numbered-on f (suc from) k)
-
-pub numbered-same : {A : Type 0} (f g : ℕ → A) → ((i : ℕ) → f i ≡ g i) → (from k : ℕ) → numbered f from k ≡ numbered g from k
-numbered-same f g e from zero = refl
-numbered-same f g e from (suc k) = ap₂ _∷_ (e from) (numbered-same f g e (suc from) k)
-
-pub numbered-long : {A : Type 0} (f : ℕ → A) (from k : ℕ) → length (numbered f from k) ≡ k
-numbered-long f from zero = refl
-numbered-long f from (suc k) = ap suc (numbered-long f (suc from) k)
-
-pub numbered-map : {A B : Type 0} (g : A → B) (f : ℕ → A) (from k : ℕ) → map g (numbered f from k) ≡ numbered (λ i. g (f i)) from k
-numbered-map g f from zero = refl
-numbered-map g f from (suc k) = ap (λ l. g (f from) ∷ l) (numbered-map g f (suc from) k)
-
--- one more
-pub numbered-more : {A : Type 0} (f : ℕ → A) (from k : ℕ) → numbered f from (suc k) ≡ numbered f from k ++ (f (from + k) ∷ [])
-numbered-more f from zero = ap (λ (i : ℕ). f i ∷ []) (omega arith)
-numbered-more f from (suc k) =
-    ap (λ l. f from ∷ l) (numbered-more f (suc from) k ∙ ap (λ (i : ℕ). numbered f (suc from) k ++ (f i ∷ [])) (omega arith))
-
-pub numbered-each : {A : Type 0} (f g : ℕ → A) (from k : ℕ) → numbered f from k ≡ numbered g from k → (i : ℕ) → i < k → f (from + i) ≡ g (from + i)
-numbered-each f g from zero e i l = absurd (omega arith)
-numbered-each f g from (suc k) e zero l = let d : from ≡ from + 0 = omega arith in subst (λ (j : ℕ). f j ≡ g j) d (cc)
-numbered-each f g from (suc k) e (suc i) l =
-    let d : suc from + i ≡ from + suc i = omega arith in
-    subst (λ (j : ℕ). f j ≡ g j) d (numbered-each f g (suc from) k (cc) i (omega arith))
+use Rattle.laws.specs.Numbered.{numbered-same, numbered-map, numbered-on}
+use Rattle.laws.specs.Flat.{Sides}
+pub use Rattle.laws.specs.Numbered.{numbered-long, more-from as numbered-more}
 
 -- ---- rows of m counts a side
-
-abbrev pub Sides : ℕ → Row → Type 0
-Sides m a = (length (a .head) ≡ m) × (length (a .tail) ≡ m)
 
 pub laid-long : (m : ℕ) (T : List Row) → All (Sides m) T → length (laid T) ≡ length T * (2 * m)
 laid-long m [] w = sym (zero-mul (2 * m))
 laid-long m (a ∷ T) w =
-    omega (arith, length-append (a .head) (a .tail ++ laid T), length-append (a .tail) (laid T), w .0, laid-long m T (w .1), suc-mul (length T) (2 * m))
+    omega (arith, length-append (a .head) (a .tail ++ laid T), length-append (a .tail) (laid T), w .0 .of-head, w .0 .of-tail, laid-long m T (w .1), suc-mul (length T) (2 * m))
 
 pub laid-append : (T U : List Row) → laid (T ++ U) ≡ laid T ++ laid U
 laid-append [] U = refl
@@ -95,7 +64,7 @@ pub table-laid : (m : ℕ) (T : List Row) (z : List ℕ) → All (Sides m) T →
 table-laid m [] z w = refl
 table-laid m (a ∷ T) z w =
     ap (λ (l : List ℕ). tableOf m l (suc (length T))) (append-assoc (a .head) (a .tail ++ laid T) z ∙ ap (λ (l : List ℕ). a .head ++ l) (append-assoc (a .tail) (laid T) z))
-    ∙ ap₂ _∷_ (row-first m (a .head) (a .tail) (laid T ++ z) (w .0 .0) (w .0 .1)) (numbered-on (rowAt m (a .head ++ (a .tail ++ (laid T ++ z)))) 0 (length T) ∙ numbered-same _ _ (row-next m (a .head) (a .tail) (laid T ++ z) (w .0 .0) (w .0 .1)) 0 (length T) ∙ table-laid m T z (w .1))
+    ∙ ap₂ _∷_ (row-first m (a .head) (a .tail) (laid T ++ z) (w .0 .of-head) (w .0 .of-tail)) (numbered-on (rowAt m (a .head ++ (a .tail ++ (laid T ++ z)))) 0 (length T) ∙ numbered-same _ _ (length T) (λ r l. row-next m (a .head) (a .tail) (laid T ++ z) (w .0 .of-head) (w .0 .of-tail) r) ∙ table-laid m T z (w .1))
 
 -- the swaps of a flat table are its rows
 abbrev pub asSwap : Row → Swap

@@ -3,12 +3,13 @@
 use Prim.Native.Nat.{ℕ, _-_, zero, suc, _+_, _*_, _≤_, _<_, max}
 use mathlib.Core.Path.{_≡_, refl, sym, ap, ap₂, subst, _∙_}
 use mathlib.Core.Logic.{_⊎_, _↔_, inl, inr, ⊎-elim}
-use mathlib.Core.List.{List, [], _∷_}
+use mathlib.Core.List.{List, [], _∷_, List·Memᴰ·head, List·Memᴰ·tail}
 use native.Mathlib.Omega.{arith}
 use native.Mathlib.Decide.{decLe}
 use native.Mathlib.Nat.{add-comm, add-assoc, mul-add, mul-le-mul-right, max-comm, le-max-left, max-le}
 use lib.ListN.{length, set, getD}
 use Rattle.terms.specs.Load.{both, plus, less, zeros, Fits, grade}
+use Rattle.terms.specs.Swaps.{_∈_}
 use Rattle.terms.specs.Limits.{All}
 
 -- the least load that holds both
@@ -224,6 +225,11 @@ up-to-at m (x ∷ xs) (suc i) u = up-to-at m xs i (u .1)
 pub all-map : {A : Type 0} {P Q : A → Type 0} → ((a : A) → P a → Q a) → (l : List A) → All P l → All Q l
 all-map f [] u = tt
 all-map f (x ∷ xs) u = (f x (u .0), all-map f xs (u .1))
+
+-- what holds of each member
+pub all-members : {A : Type 0} {P : A → Type 0} (l : List A) → ((a : A) → a ∈ l → P a) → All P l
+all-members [] on = tt
+all-members (a ∷ l) on = (on a (List·Memᴰ·head refl), all-members l (λ b m. on b (List·Memᴰ·tail m)))
 
 pub up-to-more : (m k : ℕ) (x : List ℕ) → m ≤ k → UpTo m x → UpTo k x
 up-to-more m k x l u = all-map (λ a h. omega arith) x u

@@ -7,7 +7,7 @@ use Rattle.terms.specs.Load.{Fits}
 use Rattle.terms.specs.Flat.{leftAt, numbered, rowAt, tableOf}
 use Rattle.terms.specs.Settling.{NoneFits, FirstFit, FirstFit.hit, FirstFit.miss}
 use Rattle.terms.specs.Table.{Row}
-use Rattle.laws.specs.Flat.{in-numbered}
+use Rattle.laws.specs.Numbered.{in-numbered}
 
 -- r is the first of the first `rows` rows whose left side fits in x, or `rows` where none does
 pub record FirstRow (n : ℕ) (flat : List ℕ) (rows : ℕ) (x : List ℕ) (r : ℕ) : Type 0 where
@@ -40,6 +40,5 @@ module _ (n : ℕ) (flat : List ℕ) (x : List ℕ) where
 
     pub none-is : rows ≤ r → NoneFits (tableOf n flat rows) x
     none-is l a m w =
-        let t = in-numbered (rowAt n flat) 0 rows m in
-        let e : a ≡ rowAt n flat (0 + t .0) = t .2 in
-        first .none-before (t .0) (omega arith) (subst (λ (j : ℕ). Fits (leftAt n flat j) x) (omega arith) (subst (λ (b : Row). Fits (b .head) x) e w))
+        let t = in-numbered (rowAt n flat) rows m in
+        first .none-before (t .0) (omega (arith, t .1)) (subst (λ (b : Row). Fits (b .head) x) (t .2) w)

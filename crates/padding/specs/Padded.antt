@@ -6,7 +6,7 @@
 use Prim.Native.Nat.{ℕ, zero, suc, _-_}
 use mathlib.Core.Path.{_≡_, refl, sym, ap, ap₂, subst, _∙_}
 use mathlib.Core.Logic.{inl, inr}
-use mathlib.Core.List.{List, [], _∷_, _++_, map, List·Memᴰ·head, List·Memᴰ·tail, append-cancel-right}
+use mathlib.Core.List.{List, [], _∷_, _++_, map, List·Memᴰ·head, List·Memᴰ·tail, append-cancel-right, map-map}
 use native.Mathlib.Omega.{arith}
 use lib.ListN.{length, take, replicate}
 use lib.Seq.{take-at, length-take-le}
@@ -15,8 +15,9 @@ use Rattle.terms.specs.Load.{zeros, grade}
 use Rattle.terms.specs.Limits.{All, SizeFine, CostFine, most-kinds}
 use Rattle.terms.specs.Swaps.{_∈_, Swap, Reaches}
 use Rattle.terms.specs.Table.{FirstReached, Row, Above, Sorted, Sorted.none, Sorted.next, Finished}
-use Rattle.laws.specs.Load.{all-map}
-use Rattle.laws.specs.Laid.{Sides, row-same}
+use Rattle.laws.specs.Load.{all-map, all-members}
+use Rattle.laws.specs.Flat.{Sides}
+use Rattle.laws.specs.Laid.{row-same}
 use Rattle.bridge.specs.Carry.{mem-map, mem-unmap}
 use Rattle.bridge.specs.Rows.{IsSwap, IsSheet}
 use Rattle.bridge.specs.Regular.{IsKit, Regular, reaches-regular}
@@ -31,10 +32,6 @@ all-beside : {A : Type 0} (P : A → Type 0) (l : List A) (a : A) (k : ℕ) → 
 all-beside P [] a zero u p = tt
 all-beside P [] a (suc k) u p = (p, all-beside P [] a k tt p)
 all-beside P (x ∷ xs) a k u p = (u .0, all-beside P xs a k (u .1) p)
-
-all-in : {A : Type 0} (P : A → Type 0) (l : List A) → ((a : A) → a ∈ l → P a) → All P l
-all-in P [] on = tt
-all-in P (a ∷ l) on = (on a (List·Memᴰ·head refl), all-in P l (λ b m. on b (List·Memᴰ·tail m)))
 
 sorted-map : {A B : Type 0} {P : A → A → Type 0} {Q : B → B → Type 0} (f : A → B) (l : List A) → ((a b : A) → a ∈ l → b ∈ l → P a b → Q (f a) (f b)) → Sorted P l → Sorted Q (map f l)
 sorted-map f [] on s = none
@@ -55,10 +52,6 @@ narrowRow n a = record { head = take n (a .head); tail = take n (a .tail) }
 map-same : {A : Type 0} (f : A → A) (l : List A) → ((a : A) → a ∈ l → f a ≡ a) → map f l ≡ l
 map-same f [] on = refl
 map-same f (a ∷ l) on = ap₂ _∷_ (on a (List·Memᴰ·head refl)) (map-same f l (λ b m. on b (List·Memᴰ·tail m)))
-
-map-map : {A B C : Type 0} (f : B → C) (g : A → B) (l : List A) → map f (map g l) ≡ map (λ a. f (g a)) l
-map-map f g [] = refl
-map-map f g (a ∷ l) = ap (λ k. f (g a) ∷ k) (map-map f g l)
 
 -- a widened load of n counts is widened from its first n
 back-again : (n : ℕ) (x y : List ℕ) → length x ≡ n → widen n x ≡ y → widen n (take n y) ≡ y
@@ -183,7 +176,7 @@ module _ {n : ℕ} {sizes : List ℕ} {costs : List ℤ} {sheet : List Swap} (fi
           ap (λ (b : Row). length (b .head)) (sym (r .2)) ∙ length-take-le n (r .0 .head) (omega (arith, fine .few, f .heads (r .0) (r .1) .counts))
 
   finished-sides : (T : List Row) → Finished n bound sizes costs (Reaches sheet) T → All (Sides n) T
-  finished-sides T f = all-in (Sides n) T λ a m. let e : length (a .head) ≡ n = f .heads a m .counts in (e, reg fine swaps .keeps e (f .tails a m .reached))
+  finished-sides T f = all-members T λ a m. let e : length (a .head) ≡ n = f .heads a m .counts in record { of-head = e; of-tail = reg fine swaps .keeps e (f .tails a m .reached) }
 
   -- So the 12 kinds' finished table, its sides cut back to n counts, is the finished table.
   pub cut-finished : (U : List Row) → Finished most-kinds bound (widenSizes n sizes) (map pos (weights n sizes costs)) (Reaches (map (widenSwap n) sheet)) U → Finished n bound sizes costs (Reaches sheet) (map (resizeRow n) U)

@@ -4,20 +4,21 @@
 --     swaps-widened     a flat sheet, widened, read as swaps, and swap-each each of them
 --     cut-back          rows of n counts a side, widened and cut back, are the rows
 -- Assumes nothing.
-use Prim.Native.Nat.{ℕ, zero, suc, _+_, _*_, _-_, _≤_, _<_, min}
+use Prim.Native.Nat.{ℕ, _+_, _*_, _-_, _≤_, _<_, min}
 use mathlib.Core.Path.{_≡_, refl, sym, ap, ap₂, subst, _∙_}
-use mathlib.Core.List.{List, [], _∷_, _++_, map, append-nil}
+use mathlib.Core.List.{List, [], _∷_, _++_, map, append-nil, map-append}
 use native.Mathlib.Omega.{arith}
 use native.Mathlib.Decide.{decLe}
-use native.Mathlib.Numerals.{add-one}
 use lib.ListN.{length, take, drop, length-append, length-take, length-drop, length-replicate, length-map}
 use lib.Seq.{take-all, take-at, length-take-le}
 use Rattle.terms.specs.Load.{zeros}
 use Rattle.terms.specs.Limits.{All, most-kinds}
 use Rattle.terms.specs.Table.{Row}
 use Rattle.terms.specs.Flat.{leftAt, rightAt, numbered, rowAt, swapAt, tableOf, laid, filled}
-use Rattle.laws.specs.Flat.{row-in, left-long, right-long}
-use Rattle.laws.specs.Laid.{numbered-long, numbered-more, numbered-map, numbered-each, Sides, side, over, filled-more, table-laid, asSwap, swaps-rows, row-same}
+use Rattle.laws.specs.Load.{all-members}
+use Rattle.laws.specs.Numbered.{numbered-long, numbered-more, numbered-map, item-same}
+use Rattle.laws.specs.Flat.{left-long, right-long, Sides, table-sided}
+use Rattle.laws.specs.Laid.{side, over, filled-more, table-laid, asSwap, swaps-rows, row-same}
 use Rattle.padding.specs.Widen.{widen, widenSwap, widenRow, resize, resizeRow}
 
 -- ---- one side
@@ -50,11 +51,7 @@ resize-cuts n x few e =
 
 all-sides : (m : ℕ) (T : List Row) → All (Sides m) (map (resizeRow m) T)
 all-sides m [] = tt
-all-sides m (a ∷ T) = ((resize-long m (a .head), resize-long m (a .tail)), all-sides m T)
-
-map-append : {A B : Type 0} (f : A → B) (l k : List A) → map f (l ++ k) ≡ map f l ++ map f k
-map-append f [] k = refl
-map-append f (a ∷ l) k = ap (λ x. f a ∷ x) (map-append f l k)
+all-sides m (a ∷ T) = (record { of-head = resize-long m (a .head); of-tail = resize-long m (a .tail) }, all-sides m T)
 
 abbrev pub resized : ℕ → List ℕ → ℕ → ℕ → List Row
 resized n flat rows m = map (resizeRow m) (tableOf n flat rows)
@@ -80,14 +77,13 @@ module _ (n m long : ℕ) (flat : List ℕ) (r : ℕ) (lies : r * (2 * n) + 2 * 
   abbrev row-there : Row
   row-there = record { head = side m x; tail = side m y }
 
-  one-more : resized n flat (suc r) m ≡ resized n flat r m ++ (row-there ∷ [])
+  one-more : resized n flat (r + 1) m ≡ resized n flat r m ++ (row-there ∷ [])
   one-more =
       let h : side m x ≡ resize m (leftAt n flat r) = resize-part n m (leftAt n flat r) (left-long n flat r lies) in
       let t : side m y ≡ resize m (rightAt n flat r) = resize-part n m (rightAt n flat r) (right-long n flat r lies) in
-      let here : 0 + r ≡ r = omega arith in
-      ap (map (resizeRow m)) (numbered-more (rowAt n flat) 0 r)
-      ∙ map-append (resizeRow m) (tableOf n flat r) (rowAt n flat (0 + r) ∷ [])
-      ∙ ap (λ (a : Row). resized n flat r m ++ (a ∷ [])) (ap (λ (i : ℕ). resizeRow m (rowAt n flat i)) here ∙ row-same (sym h) (sym t))
+      ap (map (resizeRow m)) (numbered-more (rowAt n flat) r)
+      ∙ map-append (resizeRow m) (tableOf n flat r) (rowAt n flat r ∷ [])
+      ∙ ap (λ (a : Row). resized n flat r m ++ (a ∷ [])) (row-same (sym h) (sym t))
 
   side-fits : (z : List ℕ) → length (take (min n m) z) ≤ m
   side-fits z = omega (arith, length-take (min n m) z)
@@ -99,7 +95,6 @@ module _ (n m long : ℕ) (flat : List ℕ) (r : ℕ) (lies : r * (2 * n) + 2 * 
       ap (rowOver n flat r m) d
       ∙ subst (λ (i : ℕ). over (over (filled long (resized n flat r m)) (i * (2 * m)) x) (i * (2 * m) + m) y ≡ filled long (resized n flat r m ++ (row-there ∷ []))) w more
       ∙ ap (filled long) (sym one-more)
-      ∙ ap (λ (i : ℕ). filled long (resized n flat i m)) (sym (add-one r))
 
   pub row-over-long : (out : List ℕ) → length out ≡ long → length (rowOver n flat r m out) ≡ long
   row-over-long out e =
@@ -114,24 +109,18 @@ table-resized n m long flat rows =
     ap (tableOf m (filled long T)) (sym (resized-long n m flat rows))
     ∙ table-laid m T (zeros (long - length (laid T))) (all-sides m (tableOf n flat rows))
 
-all-numbered : {A : Type 0} (P : A → Type 0) (f : ℕ → A) (from k : ℕ) → ((i : ℕ) → i < from + k → P (f i)) → All P (numbered f from k)
-all-numbered P f from zero on = tt
-all-numbered P f from (suc k) on = (on from (omega arith), all-numbered P f (suc from) k (λ i l. on i (omega arith)))
-
 pub table-sides : (n rows : ℕ) (flat : List ℕ) → rows * (2 * n) ≤ length flat → All (Sides n) (tableOf n flat rows)
-table-sides n rows flat h = all-numbered (Sides n) (rowAt n flat) 0 rows λ i l.
-    let lies : i * (2 * n) + 2 * n ≤ length flat = row-in n rows i (length flat) (omega arith) h in
-    (left-long n flat i lies, right-long n flat i lies)
+table-sides n rows flat h = all-members (tableOf n flat rows) (table-sided n rows flat h)
 
 pub rows-widened : (n : ℕ) (T : List Row) → n ≤ most-kinds → All (Sides n) T → map (resizeRow most-kinds) T ≡ map (widenRow n) T
 rows-widened n [] few w = refl
 rows-widened n (a ∷ T) few w =
-    ap₂ _∷_ (row-same (resize-widens n (a .head) few (w .0 .0)) (resize-widens n (a .tail) few (w .0 .1))) (rows-widened n T few (w .1))
+    ap₂ _∷_ (row-same (resize-widens n (a .head) few (w .0 .of-head)) (resize-widens n (a .tail) few (w .0 .of-tail))) (rows-widened n T few (w .1))
 
 pub cut-back : (n : ℕ) (T : List Row) → n ≤ most-kinds → All (Sides n) T → map (resizeRow n) (map (widenRow n) T) ≡ T
 cut-back n [] few w = refl
 cut-back n (a ∷ T) few w =
-    ap₂ _∷_ (row-same (resize-cuts n (a .head) few (w .0 .0)) (resize-cuts n (a .tail) few (w .0 .1))) (cut-back n T few (w .1))
+    ap₂ _∷_ (row-same (resize-cuts n (a .head) few (w .0 .of-head)) (resize-cuts n (a .tail) few (w .0 .of-tail))) (cut-back n T few (w .1))
 
 as-swaps : (n : ℕ) (T : List Row) → map asSwap (map (widenRow n) T) ≡ map (widenSwap n) (map asSwap T)
 as-swaps n [] = refl
@@ -146,7 +135,5 @@ swaps-widened n k flat out e =
 
 -- so is each swap
 pub swap-each : (n k : ℕ) (flat out : List ℕ) → numbered (swapAt most-kinds out) 0 k ≡ map (widenSwap n) (numbered (swapAt n flat) 0 k) → (r : ℕ) → r < k → swapAt most-kinds out r ≡ widenSwap n (swapAt n flat r)
-swap-each n k flat out e r l =
-    let here : 0 + r ≡ r = omega arith in
-    subst (λ (i : ℕ). swapAt most-kinds out i ≡ widenSwap n (swapAt n flat i)) here
-    (numbered-each (swapAt most-kinds out) (λ i. widenSwap n (swapAt n flat i)) 0 k (e ∙ numbered-map (widenSwap n) (swapAt n flat) 0 k) r l)
+swap-each n k flat out e =
+    item-same (swapAt most-kinds out) (λ i. widenSwap n (swapAt n flat i)) k (e ∙ numbered-map (widenSwap n) (swapAt n flat) 0 k)

@@ -1,8 +1,8 @@
 -- What is known of a rule table that complete accepted, as it left it: the way to the promises.
 -- Assumes nothing.
 use Prim.Native.Nat.{ℕ, _*_, _-_, _/_, _≤_, _<_}
-use mathlib.Core.Path.{_≡_, refl, ap, sym, subst, _∙_}
-use mathlib.Core.List.{List, [], _∷_, _++_, List·Memᴰ·head, List·Memᴰ·tail}
+use mathlib.Core.Path.{_≡_, ap, sym, subst, _∙_}
+use mathlib.Core.List.{List, [], _∷_, _++_}
 use native.Mathlib.Omega.{arith}
 use native.Mathlib.Nat.{mul-le-mul-right}
 use lib.ListN.{length, length-append, length-replicate}
@@ -11,15 +11,16 @@ use Rattle.terms.specs.declared.Refusal.{Refusal}
 use Rattle.terms.specs.declared.Refusal.the-variants.{OverBound}
 use Rattle.terms.specs.Load.{grade, zeros}
 use Rattle.terms.specs.Limits.{All}
-use Rattle.terms.specs.Swaps.{_∈_, Reaches}
+use Rattle.terms.specs.Swaps.{Reaches}
 use Rattle.terms.specs.Table.{Row}
 use Rattle.terms.specs.Settling.{Proper}
 use Rattle.terms.specs.Flat.{rowsLent, rowAt, tableOf, sheetOf, laid}
 use Rattle.terms.specs.Outcome.{must, inTurn}
 use Rattle.laws.specs.Outcome.{AllHold, Never, passed, taken, never-append, never-turns, append-hold, hold-append, hold-turns}
-use Rattle.laws.specs.Flat.{numbered-in}
-use Rattle.laws.specs.Laid.{Sides, laid-long, table-laid}
-use Rattle.bridge.specs.Rows.{Sided}
+use Rattle.laws.specs.Load.{all-members}
+use Rattle.laws.specs.Numbered.{numbered-in}
+use Rattle.laws.specs.Flat.{Sides}
+use Rattle.laws.specs.Laid.{laid-long, table-laid}
 use Rattle.bridge.specs.Regular.{Regular, reaches-regular}
 use Rattle.bridge.specs.Theorems.{finished-sides, finished-proper}
 use Rattle.loads.specs.Lent.{Lent}
@@ -41,10 +42,6 @@ never-rows n bound sizes costs swaps rules r table =
     never-append (Rows r, table) (inputTests n bound sizes costs swaps rules) (roomTest n bound sizes costs swaps rules)
     (differs _ _, (differs _ _, (differs _ _, (differs _ _, (differs _ _, never-turns (Rows r, table) (rowsLent n swaps) (swapTests n sizes swaps rules) (λ i. (differs _ _, (differs _ _, tt))))))))
     (differs _ _, tt)
-
-all-sides : (n : ℕ) (T : List Row) → Sided n T → All (Sides n) T
-all-sides n [] w = tt
-all-sides n (a ∷ T) w = let s = w a (List·Memᴰ·head refl) in ((s .of-head, s .of-tail), all-sides n T (λ b m. w b (List·Memᴰ·tail m)))
 
 -- ---- a table that complete accepted, as it left it
 
@@ -72,7 +69,7 @@ module _ {n bound : ℕ} {sizes : List ℕ} {costs : List ℤ} {swaps rules : Li
   rows-are = let e : Rows r ≡ Rows (length T) = accepted .2 in cc
 
   sides : All (Sides n) T
-  sides = all-sides n T (finished-sides costs (fine-kit (lent-fit .kit)) reach-regular (accepted .1))
+  sides = all-members T (finished-sides costs (fine-kit (lent-fit .kit)) reach-regular (accepted .1))
 
   left-is : table ≡ laid T ++ zeros (length rules - length (laid T))
   left-is = accepted .3
@@ -107,7 +104,7 @@ module _ {n bound : ℕ} {sizes : List ℕ} {costs : List ℤ} {swaps rules : Li
   proper-at : (i : ℕ) → i < r → Proper bound sizes costs (rowAt n table i)
   proper-at i l =
       finished-proper costs (fine-kit (lent-fit .kit)) reach-regular table-finished (rowAt n table i)
-      (subst (λ (j : ℕ). rowAt n table j ∈ tableOf n table r) (omega arith) (numbered-in (rowAt n table) 0 r i l))
+      (numbered-in (rowAt n table) r i l)
 
   -- a load of n counts within the bound passes every test of settle
   pub settle-holds : (load : List ℕ) → length load ≡ n → grade sizes load ≤ bound → AllHold (tests n bound sizes costs table r load)

@@ -1,8 +1,6 @@
 -- Laws that the proofs of `rack` and of the crates above it cite.
 pub mod Weight
 pub mod Alike
-pub mod Numbered
-pub mod Steps
 pub mod Place
 pub mod Loaded
 pub mod Joining

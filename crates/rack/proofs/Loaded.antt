@@ -1,26 +1,23 @@
 -- Loads within the bound of a sound table: they stay so under its rows, and their rank falls.
 -- Assumes nothing.
 use Prim.Native.Nat.{ℕ, _<_, _≤_}
-use mathlib.Core.Path.{_≡_, refl, sym, ap, subst, _∙_}
-use mathlib.Core.Bool.{Bool, true, false}
+use mathlib.Core.Path.{_≡_, refl, sym, subst, _∙_}
 use mathlib.Core.List.{List}
 use mathlib.Core.Logic.{inl, inr}
 use native.Mathlib.Omega.{arith}
 use lib.ListN.{length}
-use Rattle.terms.specs.Load.{Fits, grade}
+use Rattle.terms.specs.Load.{Fits}
 use Rattle.terms.specs.Swaps.{exchange, Step}
-use Rattle.terms.specs.Table.{Row}
 use Rattle.terms.specs.Flat.{leftAt, rightAt, rowAt, tableOf}
 use Rattle.terms.specs.Settling.{NoneFits, Settles}
 use Rattle.laws.specs.Load.{UpTo, counts-up-to, up-to-more}
-use Rattle.laws.specs.Flat.{right-long}
+use Rattle.laws.specs.Flat.{right-long, row-sides}
 use Rattle.laws.specs.Order.{before-laws}
-use Rattle.loads.specs.FirstRow.{FirstRow}
-use Rattle.rack.specs.Racked.{costsOf, Racked, Sound, Loaded}
-use Rattle.rack.specs.Walks.{Walks, Walks.stop, Strides, Stepped}
-use Rattle.rack.proofs.Numbered.{numbered-in, first-numbered, none-numbered}
-use Rattle.rack.proofs.Steps.{Falls, Within, step-falls, walks-within, stride-falls, settles-within}
-use Rattle.rack.proofs.Place.{racked-rows, row-lies}
+use Rattle.loads.specs.FirstRow.{FirstRow, first-is, none-is}
+use Rattle.rack.specs.Racked.{costsOf, Sound, Loaded}
+use Rattle.laws.specs.Strides.{Walks, Walks.stop, Strides}
+use Rattle.laws.specs.Falls.{Falls, Within, step-falls, walks-within, stride-falls, settles-within}
+use Rattle.rack.proofs.Place.{racked-sided, racked-proper, row-lies}
 
 -- the rank of a load in the cost order, with counts up to 1,000
 abbrev pub rank : List ℕ → List ℕ → ℕ
@@ -40,13 +37,13 @@ module _ {weights table : List ℕ} {rows : ℕ} {x : List ℕ} (l : Loaded weig
   loaded-within (inr f) = loaded-falls f
 
   pub loaded-walks : {y : List ℕ} → Walks (tableOf 12 table rows) x y → Loaded weights table rows y
-  loaded-walks w = loaded-within (walks-within 12 (l .sound .bound) (l .sound .sizes) (costsOf weights) (racked-rows (l .sound .racked)) w)
+  loaded-walks w = loaded-within (walks-within 12 (l .sound .bound) (l .sound .sizes) (costsOf weights) (racked-sided (l .sound .racked)) (racked-proper (l .sound .racked)) w)
 
   pub loaded-settles : {y : List ℕ} → Settles (tableOf 12 table rows) x y → Loaded weights table rows y
-  loaded-settles w = loaded-within (settles-within 12 (l .sound .bound) (l .sound .sizes) (costsOf weights) (racked-rows (l .sound .racked)) w)
+  loaded-settles w = loaded-within (settles-within 12 (l .sound .bound) (l .sound .sizes) (costsOf weights) (racked-sided (l .sound .racked)) (racked-proper (l .sound .racked)) w)
 
   stride-down : {y : List ℕ} → Strides (tableOf 12 table rows) x y → Falls 12 (l .sound .sizes) (costsOf weights) x y
-  stride-down w = stride-falls 12 (l .sound .bound) (l .sound .sizes) (costsOf weights) (racked-rows (l .sound .racked)) w
+  stride-down w = stride-falls 12 (l .sound .bound) (l .sound .sizes) (costsOf weights) (racked-sided (l .sound .racked)) (racked-proper (l .sound .racked)) w
 
   pub loaded-stride : {y : List ℕ} → Strides (tableOf 12 table rows) x y → Loaded weights table rows y
   loaded-stride w = loaded-falls (stride-down w)
@@ -64,7 +61,7 @@ module _ {weights table : List ℕ} {rows : ℕ} {x : List ℕ} (l : Loaded weig
 
     row-falls : Falls 12 (l .sound .sizes) (costsOf weights) x (exchange (leftAt 12 table r) (rightAt 12 table r) x)
     row-falls =
-        step-falls 12 (l .sound .bound) (l .sound .sizes) (costsOf weights) (racked-rows (l .sound .racked)) (rowAt 12 table r) (numbered-in (rowAt 12 table) 0 rows r (omega arith) (omega arith)) row-step
+        step-falls 12 (l .sound .bound) (l .sound .sizes) (costsOf weights) (rowAt 12 table r) (row-sides 12 table r (row-lies (l .sound .racked) r in-use)) (l .sound .racked .proper r in-use) row-step
 
     pub row-loaded : Loaded weights table rows (exchange (leftAt 12 table r) (rightAt 12 table r) x)
     row-loaded = loaded-falls row-falls
@@ -74,13 +71,13 @@ module _ {weights table : List ℕ} {rows : ℕ} {x : List ℕ} (l : Loaded weig
         record {
           by = rowAt 12 table r;
           to = exchange (leftAt 12 table r) (rightAt 12 table r) x;
-          fits = first-numbered x (rowAt 12 table) 0 rows r (omega arith) (omega arith) (λ j p q. f .none-before j q) row-fits;
+          fits = first-is 12 table x rows r f in-use;
           step = row-step;
           on = stop refl;
         }
 
 pub no-row : {table : List ℕ} {rows : ℕ} {x : List ℕ} {r : ℕ} → FirstRow 12 table rows x r → rows ≤ r → NoneFits (tableOf 12 table rows) x
-no-row {table} {rows} {x} f l = none-numbered x (rowAt 12 table) rows (λ j h. f .none-before j (omega arith))
+no-row {table} {rows} {x} {r} = none-is 12 table x rows r
 
 pub loaded-rank : {weights table : List ℕ} {rows : ℕ} {x y : List ℕ} → Loaded weights table rows x → Strides (tableOf 12 table rows) x y → rank weights y < rank weights x
 loaded-rank {weights} {table} {rows} {x} {y} l w =

@@ -5,8 +5,8 @@ use mathlib.Core.List.{List}
 use Rattle.terms.specs.Order.{Before}
 use Rattle.terms.specs.Table.{Row}
 use Rattle.terms.specs.Settling.{NoneFits}
+use Rattle.laws.specs.Strides.{Walks}
 use Rattle.rack.specs.Racked.{costsOf}
-use Rattle.rack.specs.Walks.{Walks}
 use Rattle.rack.specs.declared.Meeting.{Meeting}
 use Rattle.rack.specs.declared.Meeting.the-variants.{Met, First, Second}
 

@@ -1,6 +1,6 @@
 -- What the contracts of `rack` cite besides the terms.
 pub mod Compared
 pub mod Racked
-pub mod Walks
+pub mod Stepped
 pub mod Joined
 pub mod Rows

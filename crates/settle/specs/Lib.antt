@@ -3,5 +3,4 @@ pub mod Ready
 pub mod Call
 pub mod One
 pub mod Passed
-pub mod Strides
 pub mod Going

@@ -1,4 +1,3 @@
-use Prim.Native.Nat.{suc}
 use mathlib.Core.Path.{sym, subst, _∙_}
 use mathlib.Core.List.{List}
 use Prim.Native.Nat.{ℕ}
@@ -6,7 +5,7 @@ use native.Mathlib.Omega.{arith}
 use Rattle.terms.specs.Flat.{tableOf}
 use Rattle.laws.specs.Order.{before-laws}
 use Rattle.leap.specs.Way.{rounds-fewer}
-use Rattle.settle.specs.Strides.{Strides}
+use Rattle.laws.specs.Strides.{Strides}
 use Rattle.settle.specs.Going.{Going, lies, h-long, t-long, h-fits, calm-start, tops-fit, leap-fits, leap-strides, run-ends, run-long, run-falls, run-goes}
 use Rattle.settle.proofs.settle_proper.Statement.{statement}
 use Rattle.settle.proofs.settle_proper.Tie as tie
@@ -18,7 +17,7 @@ abbrev μ-loop : tie.MeasureT-loop
 μ-loop n bound sizes costs rules rows load₀ r₀ load r = before-laws costs n .rank bound load
 
 -- what the leap left is so many strides from what the load was
-strides : (c : tie.After-leap-in Inv-loop μ-loop) → let a = c .before .before .before .before .before .before .before .before .before .before .before .before .before .before .before .args in Strides (tableOf (a .n) (a .rules .now) (a .rows)) (suc (c .before .before .calm .result)) (c .before .before .before .before .before .before .before .before .before .loop .load) (c .leap-in .last .1 .1 .1 .0)
+strides : (c : tie.After-leap-in Inv-loop μ-loop) → let a = c .before .before .before .before .before .before .before .before .before .before .before .before .before .before .before .args in Strides (tableOf (a .n) (a .rules .now) (a .rows)) (c .before .before .before .before .before .before .before .before .before .loop .load) (c .leap-in .last .1 .1 .1 .0)
 strides c =
     let a = c .before .before .before .before .before .before .before .before .before .before .before .before .before .before .before .args in
     let ready = c .before .before .before .before .before .before .before .before .before .before .before .before .before .before .before .pre .0 in
@@ -29,7 +28,7 @@ strides c =
     let most = c .before .before .before .before .rounds-of in
     let more = c .before .before .calm in
     let enough = rounds-fewer (most .result) (more .result) (h .result .now) (t .result .now) (loop .load) (more .ensures .0) (most .ensures .1) in
-    subst (λ (y : List ℕ). Strides (tableOf (a .n) (a .rules .now) (a .rows)) (suc (more .result)) (loop .load) y) (sym (c .leap-in .ensures)) (leap-strides (a .n) (a .bound) (a .sizes .now) (a .costs .now) (a .rules .now) (a .rows) ready (a .load .now) (loop .load) (loop .r) (loop .inv) taken (h .result .now) (t .result .now) (h .ensures .0) (t .ensures .0) (more .result) enough (more .ensures .1))
+    subst (λ (y : List ℕ). Strides (tableOf (a .n) (a .rules .now) (a .rows)) (loop .load) y) (sym (c .leap-in .ensures)) (leap-strides (a .n) (a .bound) (a .sizes .now) (a .costs .now) (a .rules .now) (a .rows) ready (a .load .now) (loop .load) (loop .r) (loop .inv) taken (h .result .now) (t .result .now) (h .ensures .0) (t .ensures .0) (more .result) enough (more .ensures .1))
 
 first-fit-requires : tie.Need-first-fit-requires Inv-loop μ-loop
 first-fit-requires c κs = (c .before .before .before .before .pre .0 .in-use, c .before .before .before .before .pre .1 .0)
@@ -89,21 +88,21 @@ first-fit-requires-2 c κs =
     let a = c .before .before .before .before .before .before .before .before .before .before .before .before .before .before .before .before .before .before .args in
     let ready = c .before .before .before .before .before .before .before .before .before .before .before .before .before .before .before .before .before .before .pre .0 in
     let loop = c .before .before .before .before .before .before .before .before .before .before .before .before .loop in
-    (ready .in-use, run-long (a .n) (a .bound) (a .sizes .now) (a .costs .now) (a .rules .now) (a .rows) ready (a .load .now) (loop .load) (loop .r) (loop .inv) (c .before .before .before .before .before .calm .result) (c .before .before .before .leap-in .last .1 .1 .1 .0) (strides (c .before .before .before)))
+    (ready .in-use, run-long (a .n) (a .bound) (a .sizes .now) (a .costs .now) (a .rules .now) (a .rows) ready (a .load .now) (loop .load) (loop .r) (loop .inv) (c .before .before .before .leap-in .last .1 .1 .1 .0) (strides (c .before .before .before)))
 
 loop-less : tie.Need-loop-less Inv-loop μ-loop
 loop-less c =
     let a = c .before .before .before .before .before .before .before .before .before .before .before .before .before .before .before .before .before .before .before .args in
     let ready = c .before .before .before .before .before .before .before .before .before .before .before .before .before .before .before .before .before .before .before .pre .0 in
     let loop = c .before .before .before .before .before .before .before .before .before .before .before .before .before .loop in
-    run-falls (a .n) (a .bound) (a .sizes .now) (a .costs .now) (a .rules .now) (a .rows) ready (a .load .now) (loop .load) (loop .r) (loop .inv) (c .before .before .before .before .before .before .calm .result) (c .before .before .before .before .leap-in .last .1 .1 .1 .0) (strides (c .before .before .before .before))
+    run-falls (a .n) (a .bound) (a .sizes .now) (a .costs .now) (a .rules .now) (a .rows) ready (a .load .now) (loop .load) (loop .r) (loop .inv) (c .before .before .before .before .leap-in .last .1 .1 .1 .0) (strides (c .before .before .before .before))
 
 loop-again : tie.Need-loop-again Inv-loop μ-loop
 loop-again c =
     let a = c .before .before .before .before .before .before .before .before .before .before .before .before .before .before .before .before .before .before .before .args in
     let ready = c .before .before .before .before .before .before .before .before .before .before .before .before .before .before .before .before .before .before .before .pre .0 in
     let loop = c .before .before .before .before .before .before .before .before .before .before .before .before .before .loop in
-    run-goes (a .n) (a .bound) (a .sizes .now) (a .costs .now) (a .rules .now) (a .rows) ready (a .load .now) (loop .load) (loop .r) (loop .inv) (c .before .before .before .before .before .before .calm .result) (c .before .before .before .before .leap-in .last .1 .1 .1 .0) (strides (c .before .before .before .before)) (c .first-fit2 .result) (c .first-fit2 .ensures)
+    run-goes (a .n) (a .bound) (a .sizes .now) (a .costs .now) (a .rules .now) (a .rows) ready (a .load .now) (loop .load) (loop .r) (loop .inv) (c .before .before .before .before .leap-in .last .1 .1 .1 .0) (strides (c .before .before .before .before)) (c .first-fit2 .result) (c .first-fit2 .ensures)
 
 same-length : tie.Need-same-length Inv-loop μ-loop
 same-length c = c .before .loop .inv .long ∙ sym (c .before .before .before .before .before .before .before .pre .1 .0)

@@ -1,11 +1,10 @@
--- Steps by the first row that fits.
+-- Steps by the first row that fits, one after the other.
 use Prim.Native.Nat.{ℕ}
 use mathlib.Core.Path.{_≡_}
-use mathlib.Core.Bool.{Bool, true, false}
 use mathlib.Core.List.{List}
 use Rattle.terms.specs.Swaps.{Step}
 use Rattle.terms.specs.Table.{Row}
-use Rattle.terms.specs.Settling.{FirstFit, NoneFits}
+use Rattle.terms.specs.Settling.{FirstFit}
 
 -- x comes to y by zero or more steps, each by the first row that fits
 pub data Walks (table : List Row) : List ℕ → List ℕ → Type 0 where
@@ -19,8 +18,3 @@ pub record Strides (table : List Row) (x z : List ℕ) : Type 0 where
   pub fits : FirstFit x by table
   pub step : Step (by .head) (by .tail) x to
   pub on : Walks table to z
-
--- what an answer says: there was a step, or no row fits
-abbrev pub Stepped : List Row → List ℕ → List ℕ → Bool → Type 0
-Stepped table x y true = Strides table x y
-Stepped table x y false = NoneFits table x × (x ≡ y)
