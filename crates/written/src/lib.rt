@@ -1,0 +1,1 @@
+// A sheet that is written reads back as what it was written from: specs only.
