@@ -4,3 +4,6 @@ pub mod Parts
 pub mod Spelled
 pub mod Lines
 pub mod Back
+pub mod Placed
+pub mod Call
+pub mod Worked

@@ -17,7 +17,7 @@ use Rattle.texts.specs.Number.{numberOf}
 use Rattle.lines.specs.Fields.{kitWord, sizeWord, costWord, swapWord, loadWord, wordOf, same}
 use Rattle.shapes.specs.Split.{fine, split, first, numbers, shaped, lined, readLine, costOf}
 use Rattle.shapes.proofs.Parted.{some-piece}
-use Rattle.records.specs.Lines.{Pieces, after, all, within, kitLine, sizeLine, costFine, costLine, countsLine, sidesOf, swapLine}
+use Rattle.records.specs.Lines.{Pieces, all, within, kitLine, sizeLine, costFine, costLine, countsLine, sidesOf, swapLine}
 use Rattle.print.specs.Lines.{digits, each}
 use Rattle.written.specs.Write.{SwapFine, lineOf, costDigits, sides, swapText}
 use Rattle.written.specs.Parts.{Free, all-append, split-at, split-fields, fields-free}
