@@ -12,6 +12,10 @@ use Rattle.complete.specs.Call.{Completing}
 use Rattle.settle.specs.declared.Settled.{Settled}
 use Rattle.settle.specs.declared.Settled.the-variants as settled
 use Rattle.settle.specs.Call.{Settling}
+use Rattle.sheet.specs.declared.Counts.{Counts}
+use Rattle.sheet.specs.declared.Read.{Read}
+use Rattle.sheet.specs.declared.Read.the-variants as reads
+use Rattle.sheet.specs.Sheet.{Reads}
 
 -- 2 where the second load comes before the first, else 1; 0 where the input is refused
 pub record EarlierIs (n : ℕ) (costs : List ℤ) (x y : List ℕ) (r : ℕ) : Type 0 where
@@ -50,3 +54,24 @@ pub record SettleIs (n bound : ℕ) (sizes : List ℕ) (costs : List ℤ) (rules
   pub made : Settling n bound sizes costs rules rows load (answer, after)
   pub number : r ≡ settleNumber answer
   pub at : place ≡ settlePlace answer
+
+-- read a sheet: 0 and its counts, or the reason's number and its line, and counts of 0
+abbrev pub readNumber : Read → ℕ
+readNumber (reads.Sheet c) = 0
+readNumber (reads.Refused why line) = numberOf why
+
+abbrev pub readLine : Read → ℕ
+readLine (reads.Sheet c) = 0
+readLine (reads.Refused why line) = line
+
+abbrev pub readCounts : Read → Counts
+readCounts (reads.Sheet c) = c
+readCounts (reads.Refused why line) = record { kinds = 0; bound = 0; swaps = 0; loads = 0 }
+
+-- the numbers of an answer that the contract of read a sheet allows
+pub record ReadIs (text sizes : List ℕ) (costs : List ℤ) (swaps loads : List ℕ) (r : ℕ) (sizes′ : List ℕ) (costs′ : List ℤ) (swaps′ loads′ : List ℕ) (counts : Counts) (line : ℕ) : Type 0 where
+  pub answer : Read
+  pub made : Reads text sizes costs swaps loads (record { answer = answer; sizes = sizes′; costs = costs′; swaps = swaps′; loads = loads′ })
+  pub number : r ≡ readNumber answer
+  pub at : line ≡ readLine answer
+  pub has : counts ≡ readCounts answer

@@ -10,10 +10,12 @@ use Rattle.terms.specs.Order.{Before}
 use Rattle.laws.specs.Order.{before?}
 use Rattle.compare.specs.Earlier.{Fine}
 use Rattle.complete.specs.declared.Completed.{Completed}
-use Rattle.promises.specs.Promises.{one-completion}
+use Rattle.promises.specs.Promises.{one-completion, one-settling}
 use Rattle.settle.specs.declared.Settled.{Settled}
-use Rattle.settle.specs.One.{settling-one}
-use Rattle.doors.specs.Answers.{EarlierIs, completeNumber, completePlace, CompleteIs, settleNumber, settlePlace, SettleIs}
+use Rattle.sheet.specs.declared.Counts.{Counts}
+use Rattle.sheet.specs.Sheet.{Result}
+use Rattle.sheet.proofs.One.{reads-one}
+use Rattle.doors.specs.Answers.{EarlierIs, completeNumber, completePlace, CompleteIs, settleNumber, settlePlace, SettleIs, readNumber, readLine, readCounts, ReadIs}
 
 -- numbers that cannot differ are the same
 stable : (a b : ℕ) → ((a ≡ b → ⊥) → ⊥) → a ≡ b
@@ -35,7 +37,7 @@ earlier-is-one n costs x y r s p q = stable r s (λ differ. differ (p .refused (
 
 pub settle-is-one : (n bound : ℕ) (sizes : List ℕ) (costs : List ℤ) (rules : List ℕ) (rows : ℕ) (load : List ℕ) (r s : ℕ) (after after′ : List ℕ) (place place′ : ℕ) → SettleIs n bound sizes costs rules rows load r after place → SettleIs n bound sizes costs rules rows load s after′ place′ → (r ≡ s) × (after ≡ after′) × (place ≡ place′)
 settle-is-one n bound sizes costs rules rows load r s after after′ place place′ p q =
-    let e = settling-one n bound sizes costs rules rows load (p .answer, after) (q .answer, after′) (p .made) (q .made) in
+    let e = one-settling n bound sizes costs rules rows load (p .answer, after) (q .answer, after′) (p .made) (q .made) in
     let a : p .answer ≡ q .answer = ap (λ (o : Settled × List ℕ). o .0) e in (
       p .number ∙ ap settleNumber a ∙ sym (q .number),
       ap (λ (o : Settled × List ℕ). o .1) e,
@@ -49,4 +51,14 @@ complete-is-one n bound sizes costs swaps rules r s after after′ place place�
       p .number ∙ ap completeNumber a ∙ sym (q .number),
       ap (λ (o : Completed × List ℕ). o .1) e,
       p .at ∙ ap completePlace a ∙ sym (q .at),
+    )
+
+pub read-is-one : (text sizes : List ℕ) (costs : List ℤ) (swaps loads : List ℕ) (r s : ℕ) (o p : Result) (counts counts′ : Counts) (line line′ : ℕ) → ReadIs text sizes costs swaps loads r (o .sizes) (o .costs) (o .swaps) (o .loads) counts line → ReadIs text sizes costs swaps loads s (p .sizes) (p .costs) (p .swaps) (p .loads) counts′ line′ → (r ≡ s) × ((o .sizes ≡ p .sizes) × (o .costs ≡ p .costs) × (o .swaps ≡ p .swaps) × (o .loads ≡ p .loads)) × (counts ≡ counts′) × (line ≡ line′)
+read-is-one text sizes costs swaps loads r s o p counts counts′ line line′ i j =
+    let e = reads-one text sizes costs swaps loads _ _ (i .made) (j .made) in
+    let a : i .answer ≡ j .answer = ap (λ (q : Result). q .answer) e in (
+      i .number ∙ ap readNumber a ∙ sym (j .number),
+      (ap (λ (q : Result). q .sizes) e, ap (λ (q : Result). q .costs) e, ap (λ (q : Result). q .swaps) e, ap (λ (q : Result). q .loads) e),
+      i .has ∙ ap readCounts a ∙ sym (j .has),
+      i .at ∙ ap readLine a ∙ sym (j .at),
     )

@@ -2,10 +2,12 @@
 // No call has a `requires`; include/kitsettle.h says the same in C.
 use complete::Completed;
 use settle::Settled;
+use sheet::Counts;
+use sheet::Read;
 use terms::Kit;
 ghost use mathlib.Core.Path.{_≡_};
-ghost use Rattle.doors.specs.Answers.{EarlierIs, CompleteIs, SettleIs};
-ghost use Rattle.doors.specs.Answers.{completeNumber, completePlace, settleNumber, settlePlace};
+ghost use Rattle.doors.specs.Answers.{EarlierIs, CompleteIs, SettleIs, ReadIs};
+ghost use Rattle.doors.specs.Answers.{completeNumber, completePlace, settleNumber, settlePlace, readNumber, readLine, readCounts};
 
 // 1 or 2, the load that comes first; 0 where the input is refused.
 #[no_mangle]
@@ -97,4 +99,62 @@ pub extern "C" fn kitsettle_settle(
     let a = settle::settle(Kit::of(kinds, bound), sizes, costs, rules, rows, load);
     *place = settle_place(a);
     settle_number(a)
+}
+
+fn read_number(a: Read) -> u32
+    ensures { λ r. ⌜ r ≡ readNumber a ⌝ }
+{
+    match a {
+        Read::Sheet(_) => 0,
+        Read::Refused(why, _) => numbers::number(why),
+    }
+}
+
+fn read_line(a: Read) -> usize
+    ensures { λ r. ⌜ r ≡ readLine a ⌝ }
+{
+    match a {
+        Read::Sheet(_) => 0,
+        Read::Refused(_, line) => line,
+    }
+}
+
+fn read_counts(a: Read) -> Counts
+    ensures { λ r. ⌜ r ≡ readCounts a ⌝ }
+{
+    match a {
+        Read::Sheet(c) => c,
+        Read::Refused(_, _) => Counts {
+            kinds: 0,
+            bound: 0,
+            swaps: 0,
+            loads: 0,
+        },
+    }
+}
+
+// 0, the four counts and the buffers; or the refusal number, its line, and four counts of 0.
+#[no_mangle]
+pub extern "C" fn kitsettle_read(
+    text: &[u8],
+    sizes: &mut [u16],
+    costs: &mut [i32],
+    swaps: &mut [u16],
+    loads: &mut [u16],
+    kinds: &mut usize,
+    bound: &mut usize,
+    swap_count: &mut usize,
+    load_count: &mut usize,
+    line: &mut usize,
+) -> u32
+    ensures { λ r. ⌜ ReadIs (now (text .entry)) (now (sizes .entry)) (now (costs .entry)) (now (swaps .entry)) (now (loads .entry)) r (now (sizes .exit)) (now (costs .exit)) (now (swaps .exit)) (now (loads .exit)) (record { kinds = now (kinds .exit); bound = now (bound .exit); swaps = now («swap_count» .exit); loads = now («load_count» .exit) }) (now (line .exit)) ⌝ }
+{
+    let a = sheet::read_sheet(text, sizes, costs, swaps, loads);
+    let c = read_counts(a);
+    *kinds = c.kinds;
+    *bound = c.bound;
+    *swap_count = c.swaps;
+    *load_count = c.loads;
+    *line = read_line(a);
+    read_number(a)
 }
