@@ -16,7 +16,7 @@
  *   - No pointer is NULL, also where its count is 0; each is aligned for its type.
  *   - A buffer that a call writes (a pointer without `const`) overlaps no other buffer of that call.
  *   - Nothing is allocated or kept: a call reads and writes what it is lent, and returns. Calls on separate
- *     buffers may run at the same time. A call needs at most 512 KiB of stack.
+ *     buffers may run at the same time. A call needs less than 256 KiB of stack.
  *
  * Refusal numbers, in the order of the tests. "Untouched" is said of every lent buffer.
  *
