@@ -2,18 +2,17 @@
 use Prim.Native.Nat.{ℕ, suc, _+_, min, _≤_, _<_}
 use mathlib.Core.Path.{_≡_, refl, ap, sym, _∙_}
 use mathlib.Core.List.{List, [], _∷_}
-use mathlib.Core.Bool.{Bool, true, false, cond, _&&_, not, _||_}
+use mathlib.Core.Bool.{Bool, true, false, cond, _&&_, not}
 use mathlib.Core.Option.{Option, none, some}
 use native.Mathlib.Numerals.{add-one}
 use native.Mathlib.Omega.{arith}
 use lib.Dec.{eqb}
 use lib.ListN.{length, getD, drop, drop-of-length-le}
 use lib.Seq.{drop-cons}
-use borrow.Author.Tests.{eq-eqb, ne-eqb, eqb-true, eqb-false}
+use borrow.Author.Tests.{eq-eqb, ne-eqb, eqb-true}
 use Rattle.texts.specs.declared.Num.{Num}
 use Rattle.texts.specs.declared.Num.the-variants as num
 use Rattle.texts.specs.Number.{cap, held, numberOf, digits, endsField, piece, closed, numberAt}
-use Rattle.lines.specs.declared.Field.{Field}
 use Rattle.lines.specs.declared.Field.the-variants.{Word, Number, Minus, Feed, Bad}
 use Rattle.lines.specs.Fields.{same, kitWord, sizeWord, costWord, swapWord, loadWord, wordOf, worded, numbered, lessened, signed, wordIn, numberIn, minusIn, fieldAt, fieldIs}
 

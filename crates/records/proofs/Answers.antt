@@ -1,18 +1,17 @@
 -- What the functions over one line answer, from the row that `line_at` read. Assumes nothing.
 use Prim.Native.Nat.{ℕ, zero, suc, _+_, _*_, min, _≤_, _<_}
-use mathlib.Core.Path.{_≡_, refl, ap, sym, subst, _∙_}
+use mathlib.Core.Path.{_≡_, refl, ap, sym, _∙_}
 use mathlib.Core.List.{List, [], _∷_, _++_, map}
-use mathlib.Core.Bool.{Bool, true, false, cond, not, _&&_}
-use mathlib.Core.Option.{Option}
+use mathlib.Core.Bool.{Bool, true, false, cond, not}
 use native.Mathlib.Omega.{arith}
-use lib.Dec.{leb, ltb, eqb}
-use lib.IntN.{ℤ, pos}
+use lib.Dec.{ltb, eqb}
+use lib.IntN.{ℤ}
 use lib.ListN.{length, getD, take, drop, List·getD-map}
 use lib.Seq.{take-append-seam, take-take, take-nil, drop-drop}
 use native.Mathlib.Nat.{mul-le-mul-right, add-mul, one-mul, zero-add, suc-add}
 use types.Run.{OneOf}
 use denote.Enum.Declared.{tagOf}
-use borrow.Author.Tests.{le-leb, lt-leb, lt-ltb, le-ltb, ltb-true, eq-eqb, ne-eqb}
+use borrow.Author.Tests.{le-leb, lt-leb, lt-ltb, le-ltb, ltb-true, eq-eqb, ne-eqb, eqb-true}
 use Rattle.terms.specs.declared.Kit.{Kit}
 use Rattle.terms.specs.declared.Refusal.{Refusal}
 use Rattle.terms.specs.declared.Refusal.the-variants.{Kinds, Bound, Length, Size, Cost, SameSides, UnequalGrades, BadLine, BigCount}
@@ -23,10 +22,12 @@ use Rattle.lines.specs.Fields.{same}
 use Rattle.shapes.specs.declared.Step.{Step}
 use Rattle.shapes.specs.declared.Step.the-variants.{On, Other, Refused}
 use Rattle.shapes.proofs.Step as T
-use Rattle.shapes.specs.Split.{Got, fine, wrong, split, first, rest, shaped, lined, readLine, costOf}
-use Rattle.shapes.specs.Rows.{codeOf, stepGot, isOther, begunIn}
-use Rattle.records.specs.Lines.{Pieces, after, ask, all, within, kitOf, kitLine, sizeLine, costFine, costLine, countsLine, sidesOf, swapLine}
-use Rattle.records.specs.Steps.{Stored, costFrom, Recorded, sidesStep}
+use Rattle.shapes.specs.Split.{Got, fine, wrong, split, first, rest, shaped, readLine, costOf}
+use Rattle.shapes.specs.Rows.{codeOf, stepGot, isOther}
+use Rattle.records.specs.Lines.{Pieces, after, ask, all, within, kitOf, kitLine, sizeLine, costFine, costLine, countsLine, sidesOf}
+use Rattle.records.specs.Steps.{Stored, costFrom, sidesStep}
+use Rattle.terms.specs.Decides.{Decides}
+use Rattle.records.proofs.Stores.{false-true}
 use Rattle.records.proofs.Codes.{clash, Opened, opened, refused, shut, plain-line, cost-line, all-cap, caps-off, code, all-code, codes-off}
 
 -- the first n of a row of which n were read
@@ -180,26 +181,36 @@ record-in used room width len h k = omega (arith, mul-le-mul-right width h, add-
 
 -- ## The sides of a swap
 
-module _ (line next : ℕ) (sizes left right l r : List ℕ) (el : l ≡ left) (er : r ≡ right) (b : Bool) (s : b ≡ same l r) where
-  same-is : same left right ≡ b
-  same-is = sym (s ∙ (ap (λ (x : List ℕ). same x r) el ∙ ap (same left) er))
+same-refl : (x : List ℕ) → same x x ≡ true
+unfolding same
+same-refl [] = refl
+same-refl (a ∷ x) = rw (eq-eqb a a refl) (same-refl x)
 
-  pub sides-same : b ≡ true → Refused SameSides line ≡ sidesStep line next sizes left right
-  sides-same t = rw (same-is ∙ t)
+same-is : (x y : List ℕ) → same x y ≡ true → x ≡ y
+unfolding same
+same-is [] [] e = refl
+same-is [] (b ∷ y) e = false-true e
+same-is (a ∷ x) [] e = false-true e
+same-is (a ∷ x) (b ∷ y) e = go (eqb a b) refl (same-is x y) e
+  where
+    go : (t : Bool) → eqb a b ≡ t → (same x y ≡ true → x ≡ y) → cond t (same x y) false ≡ true → a ∷ x ≡ b ∷ y
+    go true h ih e = let p = eqb-true a b h in let q = ih e in cc
+    go false h ih e = false-true e
 
-  module _ (f : b ≡ false) (g h : ℕ) (gl : g ≡ grade sizes l) (hr : h ≡ grade sizes r) where
-    grades : (g ≡ grade sizes left) × (h ≡ grade sizes right)
-    grades = (gl ∙ ap (grade sizes) el, hr ∙ ap (grade sizes) er)
+module _ (line next : ℕ) (sizes left right : List ℕ) (u : Bool) (d : Decides (left ≡ right → ⊥) u) where
+  unequal-same : (t : Bool) → same left right ≡ t → (u ≡ true → t ≡ false) × (u ≡ false → t ≡ true)
+  unequal-same true e = (λ h. absurd (d .holds h (same-is left right e)), λ h. refl)
+  unequal-same false e = (λ h. refl, λ h. absurd (d .fails h (λ p. false-true (sym e ∙ (ap (λ (x : List ℕ). same x right) p ∙ same-refl right)))))
 
-    pub sides-unequal : (g ≡ h → ⊥) → Refused UnequalGrades line ≡ sidesStep line next sizes left right
-    sides-unequal n =
-        let p = grades in
-        rw (same-is ∙ f, ne-eqb (grade sizes left) (grade sizes right) (λ e. n (p .0 ∙ (e ∙ sym (p .1)))))
+  pub sides-same : u ≡ false → Refused SameSides line ≡ sidesStep line next sizes left right
+  sides-same h = rw (unequal-same (same left right) refl .1 h)
 
-    pub sides-fine : g ≡ h → On next ≡ sidesStep line next sizes left right
-    sides-fine e =
-        let p = grades in
-        rw (same-is ∙ f, eq-eqb (grade sizes left) (grade sizes right) (sym (p .0) ∙ (e ∙ p .1)))
+  module _ (h : u ≡ true) (v : Bool) (g : Decides (grade sizes left ≡ grade sizes right) v) where
+    pub sides-unequal : v ≡ false → Refused UnequalGrades line ≡ sidesStep line next sizes left right
+    sides-unequal e = rw (unequal-same (same left right) refl .0 h, ne-eqb (grade sizes left) (grade sizes right) (g .fails e))
+
+    pub sides-fine : v ≡ true → On next ≡ sidesStep line next sizes left right
+    sides-fine e = rw (unequal-same (same left right) refl .0 h, eq-eqb (grade sizes left) (grade sizes right) (g .holds e))
 
 -- the two halves of a record of 2n counts
 drop-take : {A : Type 0} (n m : ℕ) (l : List A) → drop n (take (n + m) l) ≡ take m (drop n l)

@@ -7,11 +7,10 @@ use mathlib.Core.Bool.{Bool, true, false, cond, _&&_}
 use mathlib.Core.Option.{Option, none, some}
 use native.Mathlib.Omega.{arith}
 use lib.Dec.{leb, eqb}
-use lib.IntN.{ℤ, pos, negsuc, negℤ, natAbs, _-ℤ_}
-use lib.ListN.{length, drop}
+use lib.IntN.{ℤ, pos, negsuc}
 use types.Run.{OneOf}
 use denote.Enum.Declared.{tagOf}
-use borrow.Author.Tests.{leb-true, leb-false, le-leb, lt-leb, eqb-true, ne-eqb}
+use borrow.Author.Tests.{leb-true, leb-false, le-leb, eqb-true, ne-eqb}
 use Rattle.laws.specs.Signed as signed
 use Rattle.terms.specs.declared.Refusal.{Refusal}
 use Rattle.terms.specs.declared.Refusal.the-variants.{BadLine}
@@ -19,7 +18,7 @@ use Rattle.texts.specs.Number.{numberOf, digits, cap}
 use Rattle.shapes.specs.declared.Step.{Step}
 use Rattle.shapes.specs.declared.Step.the-variants.{On, Other, Refused}
 use Rattle.shapes.proofs.Step as T
-use Rattle.shapes.specs.Split.{Got, fine, wrong, split, first, rest, joined, numbers, isWord, shaped, lined, readLine, less, more, costOf}
+use Rattle.shapes.specs.Split.{Got, fine, wrong, split, first, rest, joined, numbers, shaped, lined, readLine, less, more, costOf}
 use Rattle.shapes.specs.Rows.{lessCode, moreCode, codeOf, stepGot}
 use Rattle.records.specs.Lines.{Pieces, all, within, costFine}
 use Rattle.records.specs.Steps.{costFrom}

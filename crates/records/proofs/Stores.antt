@@ -1,16 +1,14 @@
 -- Tests of every number of a row, and rows stored in a table, as the loops go. Assumes nothing.
-use Prim.Native.Nat.{ℕ, zero, suc, _+_, _≤_, _<_}
-use mathlib.Core.Path.{_≡_, refl, ap, sym, _∙_}
+use Prim.Native.Nat.{ℕ, _+_, _≤_, _<_}
+use mathlib.Core.Path.{_≡_, refl, ap}
 use mathlib.Core.List.{List, [], _∷_, _++_, map}
 use mathlib.Core.Bool.{Bool, true, false, cond, _&&_}
 use native.Mathlib.Numerals.{add-one}
 use native.Mathlib.Omega.{arith}
-use lib.Dec.{leb, eqb}
-use lib.IntN.{ℤ, pos}
+use lib.IntN.{ℤ}
 use lib.ListN.{length, getD, take, drop, set, length-drop, drop-of-length-le}
-use lib.Seq.{drop-cons, take-suc, take-suc-set, take-set-le, drop-set-add, take-all}
-use borrow.Author.Tests.{le-leb, lt-leb, eq-eqb, ne-eqb}
-use Rattle.lines.specs.Fields.{same}
+use lib.Seq.{drop-cons, take-suc, take-suc-set, take-set-le, drop-set-add}
+use borrow.Author.Tests.{le-leb, lt-leb}
 use Rattle.records.specs.Lines.{all, within}
 
 pub false-true : {A : Type 0} → false ≡ true → A
@@ -56,18 +54,3 @@ map-append f (a ∷ x) y = rw (map-append f x y)
 pub cost-next : (f : ℕ → ℤ) (row : List ℕ) (costs : List ℤ) (i : ℕ) (z : ℤ) → z ≡ f (getD row i 0) → i < length costs → i < length row → take i costs ≡ map f (take i row) → take (i + 1) (set costs i z) ≡ map f (take (i + 1) row)
 cost-next f row costs i z n h r e =
     rw (add-one i, take-suc-set costs i z h, take-suc row i 0 r, map-append f (take i row) (getD row i 0 ∷ []), e, n)
-
--- two rows compared
-module _ (x y : List ℕ) (i : ℕ) where
-  pub same-done : length x ≤ i → length y ≤ i → true ≡ same (drop i x) (drop i y)
-  unfolding same
-  same-done h k = rw (drop-of-length-le x h, drop-of-length-le y k)
-
-  module _ (h : i < length x) (k : i < length y) where
-    pub same-differs : (getD x i 0 ≡ getD y i 0 → ⊥) → false ≡ same (drop i x) (drop i y)
-    unfolding same
-    same-differs n = rw (drop-cons x i 0 h, drop-cons y i 0 k, ne-eqb _ _ n)
-
-    pub same-next : getD x i 0 ≡ getD y i 0 → same (drop i x) (drop i y) ≡ same (drop (i + 1) x) (drop (i + 1) y)
-    unfolding same
-    same-next e = rw (add-one, drop-cons x i 0 h, drop-cons y i 0 k, eq-eqb _ _ e)

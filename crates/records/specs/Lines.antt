@@ -1,5 +1,5 @@
 -- The lines of a sheet: what each has to be, and the refusal with its line where it is not. Shape goes before every other test.
-use Prim.Native.Nat.{ℕ, _+_, _*_}
+use Prim.Native.Nat.{ℕ, _*_}
 use mathlib.Core.List.{List, [], _∷_}
 use mathlib.Core.Bool.{Bool, true, false, cond, not, _&&_}
 use lib.Dec.{leb, ltb, eqb}

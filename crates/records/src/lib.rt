@@ -4,9 +4,8 @@ ghost use mathlib.Core.Bool.{true};
 ghost use mathlib.Core.List.{map};
 ghost use Prim.Native.Nat.{_+_, _*_, _≤_};
 ghost use lib.ListN.{length, take, drop};
-ghost use Rattle.terms.specs.Limits.{most-kinds, most-swaps};
+ghost use Rattle.terms.specs.Limits.{KindsFine, most-kinds, most-swaps};
 ghost use Rattle.terms.specs.Flat.{leftAt, rightAt};
-ghost use Rattle.lines.specs.Fields.{same};
 ghost use Rattle.shapes.specs.Split.{split};
 ghost use Rattle.shapes.specs.Rows.{stepGot};
 ghost use Rattle.records.specs.Lines.{all, within, kitLine, sizeLine, costLine, countsLine, swapLine};
@@ -158,31 +157,15 @@ pub fn counts_line(
     }
 }
 
-fn same_counts(x: &[u16], y: &[u16]) -> bool
-    requires { ⌜ length (now x) ≡ length (now y) ⌝ }
-    ensures { λ r. ⌜ r ≡ same (now (x .entry)) (now (y .entry)) ⌝ }
-{
-    let mut i = 0;
-    while i < x.len() {
-        if x[i] != y[i] {
-            return false;
-        }
-        i += 1;
-    }
-    true
-}
-
 // Whether the swap that was just stored may stand.
-fn sides(line: usize, n: usize, sizes: &[u16], used: usize, swaps: &[u16], next: usize) -> Step
-    requires { ⌜ (n ≤ most-kinds) × (length (now sizes) ≡ n) × (used * (2 * n) + 2 * n ≤ length (now swaps)) ⌝ }
+fn judged(line: usize, n: usize, sizes: &[u16], used: usize, swaps: &[u16], next: usize) -> Step
+    requires { ⌜ KindsFine n × (length (now sizes) ≡ n) × (used * (2 * n) + 2 * n ≤ length (now swaps)) ⌝ }
     ensures { λ r. ⌜ r ≡ sidesStep line next (now (sizes .entry)) (leftAt n (now (swaps .entry)) used) (rightAt n (now (swaps .entry)) used) ⌝ }
 {
-    let left = loads::left_of(n, swaps, used);
-    let right = loads::right_of(n, swaps, used);
-    if same_counts(left, right) {
+    if !sides::unequal(n, swaps, used) {
         return Step::Refused(Refusal::SameSides, line);
     }
-    if loads::grade_of(sizes, left) != loads::grade_of(sizes, right) {
+    if !sides::even(n, sizes, swaps, used) {
         return Step::Refused(Refusal::UnequalGrades, line);
     }
     Step::On(next)
@@ -197,11 +180,11 @@ pub fn swap_line(
     used: usize,
     swaps: &mut [u16],
 ) -> Step
-    requires { ⌜ (n ≤ most-kinds) × (length (now sizes) ≡ n) × (used ≤ most-swaps) × (most-swaps * (2 * n) ≤ length (now swaps)) ⌝ }
+    requires { ⌜ KindsFine n × (length (now sizes) ≡ n) × (used ≤ most-swaps) × (most-swaps * (2 * n) ≤ length (now swaps)) ⌝ }
     ensures { λ r. ⌜ Recorded line 3 (2 * n) used at (now (text .entry)) (now (swaps .entry)) (swapLine line n (now (sizes .entry)) used (split 10 (drop at (now (text .entry))))) r (now (swaps .exit)) ⌝ }
 {
     match counts_line(text, at, line, lines::SWAP, 2 * n, used, Kit::SWAPS, swaps) {
-        Step::On(next) => sides(line, n, sizes, used, swaps, next),
+        Step::On(next) => judged(line, n, sizes, used, swaps, next),
         Step::Other => Step::Other,
         Step::Refused(reason, bad) => Step::Refused(reason, bad),
     }

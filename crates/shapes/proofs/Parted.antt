@@ -1,5 +1,5 @@
 -- The pieces of a text at its line feeds, and of its first line at the tabs: how they begin, as a reader meets them. Assumes nothing.
-use Prim.Native.Nat.{ℕ, zero, suc}
+use Prim.Native.Nat.{ℕ}
 use mathlib.Core.Path.{_≡_, refl, ap, sym, _∙_}
 use mathlib.Core.List.{List, [], _∷_}
 use mathlib.Core.Bool.{Bool, true, false, cond, _||_}
@@ -7,7 +7,7 @@ use lib.Dec.{eqb}
 use lib.ListN.{length, drop}
 use native.Mathlib.Omega.{arith}
 use borrow.Author.Tests.{eqb-true}
-use Rattle.texts.specs.Number.{endsField, piece, closed}
+use Rattle.texts.specs.Number.{piece, closed}
 use Rattle.shapes.specs.Split.{onto, split, first, rest}
 
 onto-pair : (c : ℕ) (ps : List (List ℕ)) → ps ≡ first ps ∷ rest ps → onto c ps ≡ first (onto c ps) ∷ rest (onto c ps)

@@ -1,9 +1,9 @@
 -- How the rows of a line go, field by field. Assumes nothing.
-use Prim.Native.Nat.{ℕ, zero, suc, _+_, _-_, min, _≤_, _<_}
-use mathlib.Core.Path.{_≡_, refl, ap, sym, subst, _∙_}
+use Prim.Native.Nat.{ℕ, suc, _+_, _-_, min, _≤_, _<_}
+use mathlib.Core.Path.{_≡_, refl, ap, sym, _∙_}
 use mathlib.Core.Logic.{_⊎_, inl, inr, ⊎-elim}
 use mathlib.Core.List.{List, [], _∷_, _++_, append-nil, append-assoc}
-use mathlib.Core.Bool.{Bool, true, false, cond, not, _&&_}
+use mathlib.Core.Bool.{Bool, true, false, cond}
 use mathlib.Core.Option.{Option, none, some}
 use native.Mathlib.Omega.{arith}
 use native.Mathlib.Numerals.{add-one}
@@ -13,17 +13,17 @@ use denote.Enum.Declared.{tagOf}
 use Rattle.lines.proofs.Field as T
 use lib.ListN.{length, take, drop, set}
 use lib.Seq.{drop-drop, take-suc-set, take-all}
-use borrow.Author.Tests.{eqb-true, eqb-false, eq-eqb, ne-eqb}
+use borrow.Author.Tests.{eqb-true}
 use Rattle.terms.specs.declared.Refusal.the-variants.{BadLine}
 use Rattle.texts.specs.declared.Num.{Num}
 use Rattle.texts.specs.declared.Num.the-variants as num
 use Rattle.texts.specs.Number.{numberOf, piece, closed, cap}
 use Rattle.lines.specs.declared.Field.{Field}
 use Rattle.lines.specs.declared.Field.the-variants.{Word, Number, Minus, Feed, Bad}
-use Rattle.lines.specs.Fields.{wordOf, worded, numbered, lessened, signed, wordIn, numberIn, fieldIn, fieldAt, same}
-use Rattle.shapes.specs.Split.{Got, fine, wrong, split, first, rest, joined, numbers, shapeBy, isWord, shaped, lined, readLine}
-use Rattle.shapes.specs.Rows.{Capped, amountOf, lessCode, moreCode, codeOf, isEmpty, rowGot, begunIn}
-use Rattle.shapes.proofs.Parted.{Begins, fields, later, some-piece, tab-fields, tab-rest, feed-fields, feed-rest, plain-piece, begins, no-line}
+use Rattle.lines.specs.Fields.{wordOf, worded, numbered, lessened, signed, wordIn, numberIn, fieldIn, fieldAt}
+use Rattle.shapes.specs.Split.{Got, fine, wrong, split, first, rest, joined, numbers, lined}
+use Rattle.shapes.specs.Rows.{Capped, amountOf, lessCode, moreCode, codeOf, rowGot}
+use Rattle.shapes.proofs.Parted.{fields, later, some-piece, tab-fields, tab-rest, feed-fields, feed-rest, plain-piece, begins, no-line}
 
 pub true-false : {A : Type 0} → true ≡ false → A
 true-false z = absurd (let y : _≡_ {A = ℕ} 0 1 = ap (λ (t : Bool). cond t 0 1) z in omega arith)

@@ -12,15 +12,15 @@ use denote.Enum.Declared.{tagOf}
 use Rattle.lines.proofs.Field as T
 use lib.ListN.{length, drop}
 use lib.Seq.{drop-drop}
-use borrow.Author.Tests.{eqb-true, eq-eqb, ne-eqb}
+use borrow.Author.Tests.{eq-eqb, ne-eqb}
 use Rattle.terms.specs.declared.Refusal.the-variants.{BadLine}
 use Rattle.texts.specs.Number.{numberOf, piece, closed, cap}
 use Rattle.lines.specs.declared.Field.{Field}
 use Rattle.lines.specs.declared.Field.the-variants.{Word, Number, Minus, Feed, Bad}
 use Rattle.lines.specs.Fields.{wordOf, worded, numbered, lessened, signed, wordIn, numberIn, fieldIn, fieldAt, same}
-use Rattle.shapes.specs.Split.{Got, fine, wrong, split, rest, numbers, isWord, shaped, lined, readLine}
+use Rattle.shapes.specs.Split.{wrong, split, rest, isWord, shaped, readLine}
 use Rattle.shapes.specs.Rows.{codeOf, rowGot, begunIn}
-use Rattle.shapes.proofs.Parted.{fields, later, begins, no-line}
+use Rattle.shapes.proofs.Parted.{later, begins, no-line}
 use Rattle.shapes.proofs.Turns.{true-false, lined-none, row-fields}
 
 -- a field is the word

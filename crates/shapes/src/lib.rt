@@ -1,6 +1,6 @@
 // The shape of a whole line of a sheet: its word, as many numbers as are due, the line feed.
 ghost use mathlib.Core.Path.{_≡_};
-ghost use mathlib.Core.Bool.{true, false, not};
+ghost use mathlib.Core.Bool.{false, not};
 ghost use lib.ListN.{length, drop};
 ghost use Rattle.shapes.specs.Split.{split, shaped, readLine};
 ghost use Rattle.shapes.specs.Rows.{Capped, amountOf, codeOf, rowGot, stepGot, isOther, begunIn};

@@ -1,5 +1,5 @@
 -- The swap lines and the load lines of a text, one turn of a loop a line. Assumes nothing.
-use Prim.Native.Nat.{ℕ, zero, suc, _+_, _-_, _*_, _≤_, _<_}
+use Prim.Native.Nat.{ℕ, zero, suc, _+_, _*_, _≤_, _<_}
 use mathlib.Core.Path.{_≡_, refl, ap, sym, _∙_}
 use mathlib.Core.List.{List, [], _∷_, _++_}
 use mathlib.Core.Bool.{Bool, true, false, cond, not, _&&_}
@@ -9,7 +9,6 @@ use native.Mathlib.Nat.{add-zero, zero-mul, add-mul, one-mul, suc-add, zero-add}
 use lib.Dec.{ltb, eqb}
 use lib.ListN.{length, getD, take, drop, drop-of-length-le}
 use lib.Seq.{drop-cons, take-nil}
-use borrow.Author.Tests.{eqb-true}
 use Rattle.terms.specs.declared.Refusal.{Refusal}
 use Rattle.terms.specs.declared.Refusal.the-variants.{Length, BadLine, BigCount, SameSides, UnequalGrades}
 use Rattle.terms.specs.Load.{grade}
@@ -17,9 +16,9 @@ use Rattle.texts.specs.Number.{numberOf, piece, closed}
 use Rattle.lines.specs.Fields.{wordOf, same}
 use Rattle.shapes.specs.declared.Step.{Step}
 use Rattle.shapes.specs.declared.Step.the-variants.{On, Other, Refused}
-use Rattle.shapes.specs.Split.{Got, fine, wrong, split, first, rest, isWord, shaped, lined, readLine, onto}
+use Rattle.shapes.specs.Split.{Got, fine, wrong, split, first, rest, isWord, shaped, lined, readLine}
 use Rattle.shapes.specs.Rows.{isEmpty, stepGot, isOther, begunIn}
-use Rattle.shapes.proofs.Parted.{some-piece, begins, no-line, feed-rest}
+use Rattle.shapes.proofs.Parted.{some-piece, begins, no-line}
 use Rattle.records.specs.Lines.{Pieces, after, ask, all, within, countsLine, sidesOf, swapLine}
 use Rattle.records.specs.Steps.{Recorded}
 use Rattle.records.proofs.Codes.{clash}

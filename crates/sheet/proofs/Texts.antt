@@ -1,8 +1,8 @@
 -- The lines of a text joined to its sheet, and what the call leaves. Assumes nothing.
-use Prim.Native.Nat.{ℕ, _+_, _-_, _*_, _≤_, _<_}
+use Prim.Native.Nat.{ℕ, _+_, _-_, _*_, _≤_}
 use mathlib.Core.Path.{_≡_, refl, ap, sym, _∙_}
-use mathlib.Core.List.{List, [], _∷_, _++_}
-use mathlib.Core.Bool.{Bool, true, false, cond, _&&_}
+use mathlib.Core.List.{List, [], _++_}
+use mathlib.Core.Bool.{Bool, true, false, _&&_}
 use native.Mathlib.Omega.{arith}
 use native.Mathlib.Nat.{mul-le-mul, sub-zero}
 use lib.Dec.{leb}
@@ -30,7 +30,7 @@ use Rattle.sheet.specs.declared.Block.{Block}
 use Rattle.sheet.specs.declared.Block.the-variants as block
 use Rattle.sheet.specs.declared.Rest.{Rest}
 use Rattle.sheet.specs.declared.Rest.the-variants as rest
-use Rattle.sheet.specs.Sheet.{Records, loadLines, loadsAfter, swapLines, Sheet, sheetOf, Result, padded, cleared, resultOf}
+use Rattle.sheet.specs.Sheet.{Records, loadLines, swapLines, Sheet, sheetOf, Result, padded, cleared, resultOf}
 use Rattle.sheet.specs.Parts.{swapsGot, loadsGot, Within, restGot, RestWithin, readGot, ReadWithin, keptOf, Ended}
 
 -- ## The swaps and the loads
@@ -59,17 +59,21 @@ abbrev kindsOf : Got (Kit × Pieces) → ℕ
 kindsOf (fine r) = r .0 .kinds
 kindsOf (wrong reason at) = 0
 
-few-kinds : (k : Kit) (q : Pieces) (n b : ℕ) (p : Pieces) (t u v : Bool) → leb n 12 ≡ u → ask {A = Kit × Pieces} (t && u) Kinds 1 (ask {A = Kit × Pieces} v Bound 1 (fine (record { kinds = n; bound = b }, p))) ≡ fine (k, q) → k .kinds ≤ 12
-few-kinds k q n b p true true true h e = let z : n ≡ k .kinds = ap kindsOf e in let y = leb-true n 12 h in omega arith
-few-kinds k q n b p true true false h e = clash _ _ _ (sym e)
-few-kinds k q n b p true false v h e = clash _ _ _ (sym e)
-few-kinds k q n b p false u v h e = clash _ _ _ (sym e)
+few-kinds : (k : Kit) (q : Pieces) (n b : ℕ) (p : Pieces) (t u v : Bool) → leb 1 n ≡ t → leb n 12 ≡ u → ask {A = Kit × Pieces} (t && u) Kinds 1 (ask {A = Kit × Pieces} v Bound 1 (fine (record { kinds = n; bound = b }, p))) ≡ fine (k, q) → (1 ≤ k .kinds) × (k .kinds ≤ 12)
+few-kinds k q n b p true true true l h e =
+    let z : n ≡ k .kinds = ap kindsOf e in
+    let x = leb-true 1 n l in
+    let y = leb-true n 12 h in
+    (omega arith, omega arith)
+few-kinds k q n b p true true false l h e = clash _ _ _ (sym e)
+few-kinds k q n b p true false v l h e = clash _ _ _ (sym e)
+few-kinds k q n b p false u v l h e = clash _ _ _ (sym e)
 
-kit-in : (ps : Pieces) (k : Kit) (q : Pieces) → kitLine ps ≡ fine (k, q) → k .kinds ≤ 12
+kit-in : (ps : Pieces) (k : Kit) (q : Pieces) → kitLine ps ≡ fine (k, q) → (1 ≤ k .kinds) × (k .kinds ≤ 12)
 kit-in ps k q e = go (readLine 1 (shaped 0 numberOf 2) ps) e
   where
-    go : (g : Got (List ℕ × Pieces)) → after g (λ r. kitOf (getD (r .0) 0 0) (getD (r .0) 1 0) (r .1)) ≡ fine (k, q) → k .kinds ≤ 12
-    go (fine r) e = few-kinds k q (getD (r .0) 0 0) (getD (r .0) 1 0) (r .1) (leb 1 (getD (r .0) 0 0)) (leb (getD (r .0) 0 0) 12) (within 1 1000 (getD (r .0) 1 0)) refl e
+    go : (g : Got (List ℕ × Pieces)) → after g (λ r. kitOf (getD (r .0) 0 0) (getD (r .0) 1 0) (r .1)) ≡ fine (k, q) → (1 ≤ k .kinds) × (k .kinds ≤ 12)
+    go (fine r) e = few-kinds k q (getD (r .0) 0 0) (getD (r .0) 1 0) (r .1) (leb 1 (getD (r .0) 0 0)) (leb (getD (r .0) 0 0) 12) (within 1 1000 (getD (r .0) 1 0)) refl refl e
     go (wrong reason at) e = clash _ _ _ (sym e)
 
 module _ (s : List ℕ) where
@@ -99,7 +103,7 @@ module _ (s : List ℕ) where
       kit-fine : kitLine (split 10 s) ≡ fine (K, P second)
       kit-fine = said ∙ ap (λ (x : KitLine). kitGot x s) e
 
-      pub kinds-in : n ≤ 12
+      pub kinds-in : (1 ≤ n) × (n ≤ 12)
       kinds-in = kit-in (split 10 s) K (P second) kit-fine
 
       module _ (z : List ℕ) (t : Step) (size : sizeLine n (P second) ≡ stepGot 2 t z s) where

@@ -4,7 +4,7 @@ ghost use mathlib.Core.List.{[], _++_};
 ghost use Prim.Native.Nat.{_+_, _-_, _*_, _≤_};
 ghost use lib.IntN.{pos};
 ghost use lib.ListN.{length, take, drop, replicate};
-ghost use Rattle.terms.specs.Limits.{most-kinds, most-swaps, most-loads};
+ghost use Rattle.terms.specs.Limits.{KindsFine, most-kinds, most-swaps, most-loads};
 ghost use Rattle.shapes.specs.Split.{split};
 ghost use Rattle.sheet.specs.Sheet.{swap-room, load-room, loadLines, swapLines, sheetOf, Reads};
 ghost use Rattle.sheet.specs.Parts.{swapsGot, loadsGot, Within, restGot, RestWithin, readGot, ReadWithin, keptOf, Ended};
@@ -39,7 +39,7 @@ pub enum Rest {
 }
 
 fn read_swaps(text: &[u8], from: usize, n: usize, sizes: &[u16], swaps: &mut [u16]) -> Block
-    requires { ⌜ (n ≤ most-kinds) × (length (now sizes) ≡ n) × (length (now swaps) ≡ swap-room) ⌝ }
+    requires { ⌜ KindsFine n × (length (now sizes) ≡ n) × (length (now swaps) ≡ swap-room) ⌝ }
     ensures { λ r. ⌜ Within most-swaps r × (swapLines n (now (sizes .entry)) 0 [] (split 10 (drop from (now (text .entry)))) ≡ swapsGot n r (now (swaps .exit)) (now (text .entry))) ⌝ }
 {
     let mut at = from;
@@ -101,7 +101,7 @@ fn read_rest(
     swaps: &mut [u16],
     loads: &mut [u16],
 ) -> Rest
-    requires { ⌜ (n ≤ most-kinds) × (length (now sizes) ≡ n) × (length (now swaps) ≡ swap-room) × (length (now loads) ≡ load-room) ⌝ }
+    requires { ⌜ KindsFine n × (length (now sizes) ≡ n) × (length (now swaps) ≡ swap-room) × (length (now loads) ≡ load-room) ⌝ }
     ensures { λ r. ⌜ RestWithin r × (swapLines n (now (sizes .entry)) 0 [] (split 10 (drop at (now (text .entry)))) ≡ restGot n r (now (swaps .exit)) (now (loads .exit))) ⌝ }
 {
     match read_swaps(text, at, n, sizes, swaps) {

@@ -19,8 +19,8 @@ counts-line-requires c κs = search needs
 enum-known-next : tie.Need-enum-known-next
 enum-known-next c = search needs
 
-sides-requires : tie.Need-sides-requires
-sides-requires c κs =
+judged-requires : tie.Need-judged-requires
+judged-requires c κs =
     let a = c .before .before .before .before .before .before .before .before .before .before .before .args in
     let x = c .before .before .before .before .before .before .counts-line in
     let e = x .ensures .is ∙ ap (λ (q : Step). stepGot (a .line) q (take (2 * a .n) (drop (a .used * (2 * a .n)) (x .last .1 .1 .1 .1 .1 .1 .1 .0))) (a .text .now)) (c .before .before .next .given .1) in
@@ -45,8 +45,8 @@ returns c =
     let row = take (2 * a .n) (drop (a .used * (2 * a .n)) (x .last .1 .1 .1 .1 .1 .1 .1 .0)) in
     let e = x .ensures .is ∙ ap (λ (q : Step). stepGot (a .line) q row (a .text .now)) (c .before .before .before .next .given .1) in
     record {
-      other = ap isOther (c .sides .ensures) ∙ (answers.sides-other (a .line) _ (a .sizes .now) _ _ ∙ (sym (ap isOther (c .before .before .before .next .given .1)) ∙ x .ensures .other));
-      is = ap (answers.sided (a .line) (a .n) (a .sizes .now)) e ∙ (answers.swap-sides (a .line) (a .n) (a .used) _ (a .sizes .now) (x .last .1 .1 .1 .1 .1 .1 .1 .0) (a .text .now) ∙ ap (λ (q : Step). stepGot (a .line) q row (a .text .now)) (sym (c .sides .ensures)));
+      other = ap isOther (c .judged .ensures) ∙ (answers.sides-other (a .line) _ (a .sizes .now) _ _ ∙ (sym (ap isOther (c .before .before .before .next .given .1)) ∙ x .ensures .other));
+      is = ap (answers.sided (a .line) (a .n) (a .sizes .now)) e ∙ (answers.swap-sides (a .line) (a .n) (a .used) _ (a .sizes .now) (x .last .1 .1 .1 .1 .1 .1 .1 .0) (a .text .now) ∙ ap (λ (q : Step). stepGot (a .line) q row (a .text .now)) (sym (c .judged .ensures)));
       kept = x .ensures .kept;
     }
 
@@ -83,7 +83,7 @@ swap-line-spec =
     mul-counts-line
     counts-line-requires
     enum-known-next
-    sides-requires
+    judged-requires
     enum-told
     enum-known-reason
     same-length

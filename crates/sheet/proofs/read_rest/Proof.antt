@@ -20,7 +20,7 @@ add-read-loads c =
 read-loads-requires : tie.Need-read-loads-requires
 read-loads-requires c κs =
     let h = texts.within-done 64 _ _ (c .before .before .before .before .before .before .read-swaps .result) (c .before .before .before .before .before .before .read-swaps .ensures .0) (c .before .before .count .given .1) in
-    (c .before .before .before .before .before .before .before .before .before .before .before .before .pre .0, omega arith, c .before .before .before .before .before .before .before .before .before .before .before .before .pre .3)
+    (c .before .before .before .before .before .before .before .before .before .before .before .before .pre .0 .1, omega arith, c .before .before .before .before .before .before .before .before .before .before .before .before .pre .3)
 
 enum-known-number : tie.Need-enum-known-number
 enum-known-number c = search needs

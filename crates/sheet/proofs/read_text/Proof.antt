@@ -17,7 +17,7 @@ size-line-requires : tie.Need-size-line-requires
 size-line-requires c κs =
     let a = c .before .before .before .before .before .before .before .before .before .args in
     let h = texts.kinds-in (a .text .now) (c .before .before .before .before .kit-line .result) (c .before .before .before .before .kit-line .ensures) _ _ _ (c .before .before .n .given .1) in
-    (h, omega arith)
+    (h .1, omega arith)
 
 enum-known-third : tie.Need-enum-known-third
 enum-known-third c = search needs
@@ -26,7 +26,7 @@ cost-line-requires : tie.Need-cost-line-requires
 cost-line-requires c κs =
     let a = c .before .before .before .before .before .before .before .before .before .before .before .before .before .before .before .before .args in
     let h = texts.kinds-in (a .text .now) (c .before .before .before .before .before .before .before .before .before .before .before .kit-line .result) (c .before .before .before .before .before .before .before .before .before .before .before .kit-line .ensures) _ _ _ (c .before .before .before .before .before .before .before .before .before .n .given .1) in
-    (h, omega arith)
+    (h .1, omega arith)
 
 enum-known-next : tie.Need-enum-known-next
 enum-known-next c = search needs
@@ -93,7 +93,7 @@ returns c =
     let u = c .before .before .before .before .before .before .before .before .before .before .before .before .before .before .before .cost-line in
     let q = c .before .before .before .before .before .before .before .read-rest in
     let d = texts.rest-within _ _ (q .result) (q .ensures .0) (c .before .count .given .1) in
-    ((texts.kinds-in (a .text .now) (k .result) (k .ensures) _ _ _ (c .before .before .before .before .before .before .before .before .before .before .before .before .before .before .before .before .before .before .before .before .before .before .before .before .before .n .given .1), d .0, d .1), texts.text-done (a .text .now) (k .result) (k .ensures) _ _ _ (c .before .before .before .before .before .before .before .before .before .before .before .before .before .before .before .before .before .before .before .before .before .before .before .before .before .n .given .1) (take (c .before .before .before .before .before .before .before .before .before .before .before .before .before .before .before .before .before .before .before .before .before .before .before .before .before .n .given .0 .0) (t .last .1 .1 .1 .0)) (t .result) (t .ensures) _ (c .before .before .before .before .before .before .before .before .before .before .before .before .before .before .before .before .before .before .third .given .1) (take (c .before .before .before .before .before .before .before .before .before .before .before .before .before .before .before .before .before .before .before .before .before .before .before .before .before .n .given .0 .0) (u .last .1 .1 .1 .0)) (u .result) (u .ensures) _ (c .before .before .before .before .before .before .before .before .before .before .before .before .next .given .1) (q .last .1 .1 .1 .1 .0) (q .last .1 .1 .1 .1 .1 .0) (q .result) (q .ensures .1) _ _ (c .before .count .given .1))
+    ((texts.kinds-in (a .text .now) (k .result) (k .ensures) _ _ _ (c .before .before .before .before .before .before .before .before .before .before .before .before .before .before .before .before .before .before .before .before .before .before .before .before .before .n .given .1) .1, d .0, d .1), texts.text-done (a .text .now) (k .result) (k .ensures) _ _ _ (c .before .before .before .before .before .before .before .before .before .before .before .before .before .before .before .before .before .before .before .before .before .before .before .before .before .n .given .1) (take (c .before .before .before .before .before .before .before .before .before .before .before .before .before .before .before .before .before .before .before .before .before .before .before .before .before .n .given .0 .0) (t .last .1 .1 .1 .0)) (t .result) (t .ensures) _ (c .before .before .before .before .before .before .before .before .before .before .before .before .before .before .before .before .before .before .third .given .1) (take (c .before .before .before .before .before .before .before .before .before .before .before .before .before .before .before .before .before .before .before .before .before .before .before .before .before .n .given .0 .0) (u .last .1 .1 .1 .0)) (u .result) (u .ensures) _ (c .before .before .before .before .before .before .before .before .before .before .before .before .next .given .1) (q .last .1 .1 .1 .1 .0) (q .last .1 .1 .1 .1 .1 .0) (q .result) (q .ensures .1) _ _ (c .before .count .given .1))
 
 same-length-5 : tie.Need-same-length-5
 same-length-5 c = search needs
