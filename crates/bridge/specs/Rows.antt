@@ -39,9 +39,6 @@ plain-one a b e = λ i. record { head = h i; tail = t i }
     t : a .tail ≡ b .tail
     t = load-path (ap (λ (r : Row). r .tail) e)
 
-pub plain-sides : {n : ℕ} (a : RowOf (Load n)) → Sides n (plain a)
-plain-sides a = record { of-head = a .head .1; of-tail = a .tail .1 }
-
 -- ---- swaps
 
 abbrev pub plain-swap : {n : ℕ} → Load n × Load n → Swap

@@ -131,8 +131,3 @@ module _ (n : ℕ) (sizes : List ℕ) (sized : length sizes ≡ n) (pos : From 1
   pub leads-up : (T : List (RowOf (Load n))) (x : Load n) {z : List ℕ} → Leads (plain-table T) (x .0) z → (e : length z ≡ n) × Steps K T (z, e) x
   unfolding StepsTo
   leads-up T x s = leads-at T s (x .1)
-
-  pub leads-down : (T : List (RowOf (Load n))) {x y : Load n} → Steps K T y x → Leads (plain-table T) (x .0) (y .0)
-  leads-down T (in-place e) = stop (ap (λ (w : Load n). w .0) e)
-  leads-down T (onwards {x = x} a c m e r) =
-      more (plain a) (mem-map plain T m) (step-down (a .head) (a .tail) c x e) (leads-down T r)

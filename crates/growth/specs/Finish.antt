@@ -19,7 +19,7 @@ use Rattle.pairs.specs.Pairs.{common, Listed, PairList}
 use Rattle.bridge.specs.Instance.{Load}
 use Rattle.bridge.specs.Sheet.{sheet-finished, found-no-more}
 use Rattle.rack.specs.Racked.{costsOf}
-use Rattle.growth.specs.Setting.{KitOf, SheetOf, RelOf, alike-of, even-of, sheet-long, table-long, left-is}
+use Rattle.growth.specs.Setting.{KitOf, SheetOf, alike-of, even-of, sheet-long, table-long, left-is}
 use Rattle.growth.specs.Grade.{no-row, no-swap}
 use Rattle.growth.specs.End.{covered-of, common-is}
 use Rattle.growth.specs.State.{stamp, pick, Working, AtGrade, Within, NoRoomFor}
@@ -38,9 +38,6 @@ grade-stamp bound g h m e = ap (λ b. pick b g 0) (le-leb g bound (omega arith))
 module _ {bound : ℕ} {sizes weights swaps stamps : List ℕ} {count : ℕ} (w : Working bound sizes weights swaps stamps count) where
   abbrev K : Kit
   K = KitOf weights (w .setting)
-
-  abbrev R : Load 12 → Load 12 → Type 0
-  R = RelOf weights (w .setting)
 
   -- below grade 1 there is the empty load alone, and it is settled
   pub at-first : (table : List ℕ) → AtGrade w 1 table 0

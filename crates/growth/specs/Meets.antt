@@ -79,10 +79,9 @@ module _ {bound : ℕ} {sizes swaps : List ℕ} {count : ℕ} (weights : List �
           let m′ = walks-meet o (y .1) (meet-swap K R (alike-of weights s) g T₀ N new (m .1)) in
           (m .0, m′ .0, meet-swap K R (alike-of weights s) g T₀ N new (m′ .1))
 
-      grew-first : (U : List Row) (u v : Load 12) → Meet K R (alike-of weights s) g T₀ N new x y u v → Before (costsOf weights) (v .0) (u .0) → NoneFits (plain-table (T₀ ++ N)) (u .0) → U ≡ plain-table (T₀ ++ N) ++ rowOf (u .0) (v .0) ∷ [] → Grew U x y
-      grew-first U u v m b i e =
-          let irr : Irr K (T₀ ++ N) u = none-up 12 sizes (s .kit .of-sizes) (s .kit .from-one) (costsOf weights) (before-laws (costsOf weights) 12) (T₀ ++ N) u i in
-          let o = meet-left K R (alike-of weights s) g T₀ N new q m b irr in
+      -- u, that no row fits, is put in with v as its tail
+      grew : (U : List Row) (u v : Load 12) → Irr K (T₀ ++ N) u → Later K R (alike-of weights s) g T₀ N (N ++ row u v ∷ []) × (nf K (T₀ ++ (N ++ row u v ∷ [])) x ≡ nf K (T₀ ++ (N ++ row u v ∷ [])) y) → U ≡ plain-table (T₀ ++ N) ++ rowOf (u .0) (v .0) ∷ [] → Grew U x y
+      grew U u v irr o e =
           let assoc : (T₀ ++ N) ++ row u v ∷ [] ≡ T₀ ++ (N ++ row u v ∷ []) = append-assoc T₀ N (row u v ∷ []) in
           record {
             rows = N ++ row u v ∷ [];
@@ -92,18 +91,8 @@ module _ {bound : ℕ} {sizes swaps : List ℕ} {count : ℕ} (weights : List �
             joined = o .1;
           }
 
-      grew-second : (U : List Row) (u v : Load 12) → Meet K R (alike-of weights s) g T₀ N new x y u v → Before (costsOf weights) (u .0) (v .0) → NoneFits (plain-table (T₀ ++ N)) (v .0) → U ≡ plain-table (T₀ ++ N) ++ rowOf (v .0) (u .0) ∷ [] → Grew U x y
-      grew-second U u v m b i e =
-          let irr : Irr K (T₀ ++ N) v = none-up 12 sizes (s .kit .of-sizes) (s .kit .from-one) (costsOf weights) (before-laws (costsOf weights) 12) (T₀ ++ N) v i in
-          let o = meet-right K R (alike-of weights s) g T₀ N new q m b irr in
-          let assoc : (T₀ ++ N) ++ row v u ∷ [] ≡ T₀ ++ (N ++ row v u ∷ []) = append-assoc T₀ N (row v u ∷ []) in
-          record {
-            rows = N ++ row v u ∷ [];
-            is = ap plain-table (sym assoc) ∙ map-append plain (T₀ ++ N) (row v u ∷ []) ∙ sym e;
-            later = o .0;
-            apart = subst Apart assoc (apart-push K R (alike-of weights s) (T₀ ++ N) v u irr ap₀);
-            joined = o .1;
-          }
+      irr-of : (u : Load 12) → NoneFits (plain-table (T₀ ++ N)) (u .0) → Irr K (T₀ ++ N) u
+      irr-of u i = none-up 12 sizes (s .kit .of-sizes) (s .kit .from-one) (costsOf weights) (before-laws (costsOf weights) 12) (T₀ ++ N) u i
 
       pub meets-grew : {U : List Row} → Meets weights (plain-table (T₀ ++ N)) (x .0) (y .0) U → Grew U x y
       meets-grew (met z p o e) =
@@ -115,5 +104,11 @@ module _ {bound : ℕ} {sizes swaps : List ℕ} {count : ℕ} (weights : List �
             apart = ap₀;
             joined = meet-done K R (alike-of weights s) g T₀ N new (b .2) (load-path refl);
           }
-      meets-grew {U} (new-first u v p o b i e) = let w = both-walk p o in grew-first U (u, w .0) (v, w .1) (w .2) b i e
-      meets-grew {U} (new-second u v p o b i e) = let w = both-walk p o in grew-second U (u, w .0) (v, w .1) (w .2) b i e
+      meets-grew {U} (new-first u v p o b i e) =
+          let w = both-walk p o in
+          let irr = irr-of (u, w .0) i in
+          grew U (u, w .0) (v, w .1) irr (meet-left K R (alike-of weights s) g T₀ N new q (w .2) b irr) e
+      meets-grew {U} (new-second u v p o b i e) =
+          let w = both-walk p o in
+          let irr = irr-of (v, w .1) i in
+          grew U (v, w .1) (u, w .0) irr (meet-right K R (alike-of weights s) g T₀ N new q (w .2) b irr) e

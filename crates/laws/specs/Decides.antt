@@ -1,6 +1,6 @@
 -- How a test is shown to decide.
 -- Assumes nothing.
-use mathlib.Core.Path.{_≡_, refl, sym, subst}
+use mathlib.Core.Path.{_≡_, sym, subst}
 use mathlib.Core.Bool.{Bool, true, false}
 use lib.Dec.{T}
 use Rattle.terms.specs.Decides.{Decides}
@@ -16,8 +16,3 @@ decides-no n = record { holds = λ e. absurd (false-true e); fails = λ e. n }
 
 pub decides-same : {P Q : Type 0} {r : Bool} → (P → Q) → (Q → P) → Decides P r → Decides Q r
 decides-same f g d = record { holds = λ e. f (d .holds e); fails = λ e q. d .fails e (g q) }
-
--- of what is decided, one or the other
-pub decided : {P : Type 0} (r : Bool) → Decides P r → Dec P
-decided true d = yes (d .holds refl)
-decided false d = no (d .fails refl)

@@ -92,10 +92,6 @@ fits-length [] (x ∷ xs) w = absurd w
 fits-length (h ∷ hs) [] w = absurd w
 fits-length (h ∷ hs) (x ∷ xs) w = ap suc (fits-length hs xs (w .1))
 
-pub fits-refl : (x : List ℕ) → Fits x x
-fits-refl [] = tt
-fits-refl (x ∷ xs) = (omega arith, fits-refl xs)
-
 pub fits-trans : (x y z : List ℕ) → Fits x y → Fits y z → Fits x z
 fits-trans [] [] [] p q = tt
 fits-trans [] [] (z ∷ zs) p q = q
@@ -129,12 +125,6 @@ length-less h x w = length-both _-_ x h (fits-length h x w) ∙ fits-length h x 
 pub fits-iff : (h x : List ℕ) → Fits h x ↔ ((r : List ℕ) × (length r ≡ length h) × (plus h r ≡ x))
 fits-iff h x =
     (λ w. (less x h, length-less h x w, plus-less h x w), λ t. subst (λ (y : List ℕ). Fits h y) (t .2) (fits-plus h (t .0) (t .1)))
-
-pub fits-shift : (u h x : List ℕ) → length u ≡ length h → Fits h x → Fits (plus u h) (plus u x)
-fits-shift [] h x e w = tt
-fits-shift (u ∷ us) [] x e w = absurd (omega arith)
-fits-shift (u ∷ us) (h ∷ hs) [] e w = w
-fits-shift (u ∷ us) (h ∷ hs) (x ∷ xs) e w = (omega arith, fits-shift us hs xs (suc-inj e) (w .1))
 
 -- ---- the join is the least load that holds both
 
@@ -185,10 +175,6 @@ grade-pos ws x e f n =
     zero-or : (m : ℕ) → (m ≤ 0) ⊎ (0 < m)
     zero-or zero = inl (omega arith)
     zero-or (suc m) = inr (omega arith)
-
--- adding some part makes the grade greater
-pub grade-grows : (ws x u : List ℕ) → length x ≡ length ws → length u ≡ length ws → From 1 ws → (u ≡ zeros (length u) → ⊥) → grade ws x < grade ws (plus u x)
-grade-grows ws x u e d f n = omega (arith, grade-pos ws u d f n, grade-plus ws u x (d ∙ sym e))
 
 -- ---- units
 

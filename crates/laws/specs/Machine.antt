@@ -6,7 +6,7 @@ use Prim.Native.Nat.{ℕ, _+_, _*_, _<_, _≤_}
 use mathlib.Core.Path.{_≡_, sym, ap, ap₂, subst, _∙_}
 use native.Mathlib.Omega.{arith}
 use native.Mathlib.Nat.{mul-le-mul, add-mul, le-of-lt}
-use lib.IntN.{ℤ, pos, negsuc, _+ℤ_, _-ℤ_, _*ℤ_, negℤ, +ℤ-assoc}
+use lib.IntN.{ℤ, pos, negsuc, _+ℤ_, _*ℤ_, +ℤ-assoc}
 use lib.Signed.{ltZ}
 use mathlib.Core.List.{List}
 use lib.ListN.{length, getD, drop}
@@ -15,13 +15,10 @@ use Rattle.laws.specs.Walk.{cost-next}
 use mir.Syntax.{Width, w32, w64}
 use mir.Val.{toZ, ofZ, SFits}
 use mir.ValLaws.{toZ-pos, toZ-ofZ}
-use Rattle.laws.specs.Signed.{up, down, mag-le, times-up, times-down, plus-up, plus-down, neg-up, neg-down}
+use Rattle.laws.specs.Signed.{up, down, mag-le, times-up, times-down, plus-up, plus-down}
 
 pub small : (z : ℤ) → up z + down z < 9223372036854775808 → SFits w64 z
 small z h = record { sfits = omega (arith, mag-le z) }
-
-pub small-read : (z : ℤ) → up z + down z < 9223372036854775808 → toZ w64 (ofZ w64 z) ≡ z
-small-read z h = toZ-ofZ w64 z (small z h)
 
 pub sides : (c : ℤ) → SFits w32 c → up c + down c ≤ 2147483648
 sides (pos n) h = omega (arith, h .sfits)
@@ -30,11 +27,6 @@ sides (negsuc n) h = omega (arith, h .sfits)
 -- a cost of 32 bits, cast to 64
 pub widened : (c : ℤ) → SFits w32 c → SFits w64 (toZ w32 (ofZ w32 c))
 widened c h = rw (toZ-ofZ w32 c h) (small c (omega (arith, sides c h)))
-
--- the difference of two numbers of 32 bits
-pub apart-fits : (a b : ℕ) → a < 4294967296 → b < 4294967296 → SFits w64 (pos a -ℤ pos b)
-apart-fits a b p q =
-    small (pos a -ℤ pos b) (omega (arith, plus-up (pos a) (negℤ (pos b)), plus-down (pos a) (negℤ (pos b)), neg-up b, neg-down b))
 
 module _ (x : ℕ) (c : ℤ) (hx : x < 65536) (hc : SFits w32 c) where
   pub cost-fits : SFits w64 (toZ w32 (ofZ w32 c))

@@ -1,12 +1,12 @@
 -- Items by their number: k items, numbered from 0 on.
 --     numbered-long, item-at          how many they are, and which stands where
 --     numbered-in, in-numbered        what stands among them, both ways
---     numbered-same, item-same        the same items, the same list, and back
+--     numbered-same                   the same items, the same list
 --     numbered-map, numbered-on       each item read as another, or numbered from 1 on
 --     numbered-more, numbered-set     one item more, one item changed
 -- Assumes nothing.
 use Prim.Native.Nat.{ℕ, zero, suc, _+_, _≤_, _<_}
-use mathlib.Core.Path.{_≡_, refl, sym, ap, ap₂, subst, _∙_}
+use mathlib.Core.Path.{_≡_, refl, ap, ap₂, subst, _∙_}
 use mathlib.Core.Logic.{⊎-elim}
 use mathlib.Core.List.{List, [], _∷_, _++_, map, List·Memᴰ·head, List·Memᴰ·tail, List·Memᴰ·not-nil, List·Memᴰ·cases-cons}
 use native.Mathlib.Omega.{arith}
@@ -72,9 +72,6 @@ same-from f g from (suc k) e =
 
 pub numbered-same : {A : Type 0} (f g : ℕ → A) (k : ℕ) → ((i : ℕ) → i < k → f i ≡ g i) → numbered f 0 k ≡ numbered g 0 k
 numbered-same f g k e = same-from f g 0 k (λ i l h. e i (omega arith))
-
-pub item-same : {A : Type 0} (f g : ℕ → A) (k : ℕ) → numbered f 0 k ≡ numbered g 0 k → (i : ℕ) → i < k → f i ≡ g i
-item-same {A} f g k e i l = sym (item-at f (f 0) k i l) ∙ ap (λ (w : List A). getD w i (f 0)) e ∙ item-at g (f 0) k i l
 
 -- ---- each item read as another
 

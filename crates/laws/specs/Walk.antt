@@ -2,7 +2,7 @@
 --     next          the rest of a list is its element at i and the rest at i + 1
 --     ..-next       a step;  ..-done  past the end nothing is left
 -- Assumes nothing.
-use Prim.Native.Nat.{ℕ, _+_, _*_, _<_, _≤_}
+use Prim.Native.Nat.{ℕ, suc, _+_, _*_, _<_, _≤_}
 use mathlib.Core.Path.{_≡_, sym, _∙_}
 use mathlib.Core.Bool.{Bool, true, false}
 use mathlib.Core.Logic.{_⊎_, inl, inr}
@@ -22,9 +22,9 @@ use Rattle.laws.specs.Decides.{false-true}
 pub next {ℓ} : {A : Type ℓ} (l : List A) (i : ℕ) (d : A) → i < length l → drop i l ≡ getD l i d ∷ drop (i + 1) l
 next l i d h = rw add-one (drop-cons l i d h)
 
--- two numbers of 16 bits
-pub product16 : (a b : ℕ) → a < 65536 → b < 65536 → a * b ≤ 4294836225
-product16 a b p q = mul-le-mul (le-of-suc-le-suc p) (le-of-suc-le-suc q)
+-- the greatest product of two numbers, each below a limit
+pub product-most : (p q a b : ℕ) → a < suc p → b < suc q → a * b ≤ p * q
+product-most p q a b l h = mul-le-mul (le-of-suc-le-suc l) (le-of-suc-le-suc h)
 
 -- ---- the grade
 

@@ -1,10 +1,10 @@
 -- Rows of n counts a side laid as rows of m counts a side: widened where n is at most m, and cut back where it was widened before.
 --     resize-more       one row more
 --     table-resized     the rows read again
---     swaps-widened     a flat sheet, widened, read as swaps, and swap-each each of them
+--     swaps-widened     a flat sheet, widened, read as swaps
 --     cut-back          rows of n counts a side, widened and cut back, are the rows
 -- Assumes nothing.
-use Prim.Native.Nat.{ℕ, _+_, _*_, _-_, _≤_, _<_, min}
+use Prim.Native.Nat.{ℕ, _+_, _*_, _-_, _≤_, min}
 use mathlib.Core.Path.{_≡_, refl, sym, ap, ap₂, subst, _∙_}
 use mathlib.Core.List.{List, [], _∷_, _++_, map, append-nil, map-append}
 use native.Mathlib.Omega.{arith}
@@ -16,7 +16,7 @@ use Rattle.terms.specs.Limits.{All, most-kinds}
 use Rattle.terms.specs.Table.{Row}
 use Rattle.terms.specs.Flat.{leftAt, rightAt, numbered, rowAt, swapAt, tableOf, laid, filled}
 use Rattle.laws.specs.Load.{all-members}
-use Rattle.laws.specs.Numbered.{numbered-long, numbered-more, numbered-map, item-same}
+use Rattle.laws.specs.Numbered.{numbered-long, numbered-more}
 use Rattle.laws.specs.Flat.{left-long, right-long, Sides, table-sided}
 use Rattle.laws.specs.Laid.{side, over, filled-more, table-laid, asSwap, swaps-rows, row-same}
 use Rattle.padding.specs.Widen.{widen, widenSwap, widenRow, resize, resizeRow}
@@ -132,8 +132,3 @@ swaps-widened n k flat out e =
     ∙ ap (map asSwap) e
     ∙ as-swaps n (tableOf n flat k)
     ∙ ap (map (widenSwap n)) (sym (swaps-rows n flat k))
-
--- so is each swap
-pub swap-each : (n k : ℕ) (flat out : List ℕ) → numbered (swapAt most-kinds out) 0 k ≡ map (widenSwap n) (numbered (swapAt n flat) 0 k) → (r : ℕ) → r < k → swapAt most-kinds out r ≡ widenSwap n (swapAt n flat r)
-swap-each n k flat out e =
-    item-same (swapAt most-kinds out) (λ i. widenSwap n (swapAt n flat i)) k (e ∙ numbered-map (widenSwap n) (swapAt n flat) 0 k)

@@ -15,8 +15,8 @@ use Rattle.laws.specs.Flat.{right-long, row-sides}
 use Rattle.laws.specs.Order.{before-laws}
 use Rattle.loads.specs.FirstRow.{FirstRow, first-is, none-is}
 use Rattle.rack.specs.Racked.{costsOf, Sound, Loaded}
-use Rattle.laws.specs.Strides.{Walks, Walks.stop, Strides}
-use Rattle.laws.specs.Falls.{Falls, Within, step-falls, walks-within, stride-falls, settles-within}
+use Rattle.laws.specs.Strides.{Walks.stop, Strides}
+use Rattle.laws.specs.Falls.{Falls, Within, step-falls, stride-falls, settles-within}
 use Rattle.rack.proofs.Place.{racked-sided, racked-proper, row-lies}
 
 -- the rank of a load in the cost order, with counts up to 1,000
@@ -35,9 +35,6 @@ module _ {weights table : List ℕ} {rows : ℕ} {x : List ℕ} (l : Loaded weig
   pub loaded-within : {y : List ℕ} → Within 12 (l .sound .sizes) (costsOf weights) x y → Loaded weights table rows y
   loaded-within (inl e) = subst (Loaded weights table rows) e l
   loaded-within (inr f) = loaded-falls f
-
-  pub loaded-walks : {y : List ℕ} → Walks (tableOf 12 table rows) x y → Loaded weights table rows y
-  loaded-walks w = loaded-within (walks-within 12 (l .sound .bound) (l .sound .sizes) (costsOf weights) (racked-sided (l .sound .racked)) (racked-proper (l .sound .racked)) w)
 
   pub loaded-settles : {y : List ℕ} → Settles (tableOf 12 table rows) x y → Loaded weights table rows y
   loaded-settles w = loaded-within (settles-within 12 (l .sound .bound) (l .sound .sizes) (costsOf weights) (racked-sided (l .sound .racked)) (racked-proper (l .sound .racked)) w)

@@ -1,8 +1,8 @@
 -- Settling by leaps: where one row is the first that fits a load `y` which holds every load on the way, the row may be
 -- applied so many times at once.
-use Prim.Native.Nat.{ℕ, zero, suc, _+_, _*_, _-_, _≤_, _<_}
-use mathlib.Core.Path.{_≡_, refl, ap, ap₂, sym, _∙_}
-use mathlib.Core.List.{List, [], _∷_}
+use Prim.Native.Nat.{ℕ, zero, suc, _-_, _<_}
+use mathlib.Core.Path.{_≡_, refl, ap, _∙_}
+use mathlib.Core.List.{List}
 use native.Mathlib.Omega.{arith}
 use Rattle.theory.specs.Kit.{Kit, Fits, fits-trans}
 use Rattle.theory.specs.Rows.{Row, AllProper, First, hit, miss, first-mem, step-rank}

@@ -3,7 +3,7 @@ use mathlib.Core.Path.{_≡_}
 use native.Mathlib.Omega.{arith}
 use lib.ListN.{length, getD, drop}
 use Rattle.terms.specs.Load.{grade}
-use Rattle.laws.specs.Walk.{grade-next, grade-done, product16}
+use Rattle.laws.specs.Walk.{grade-next, grade-done, product-most}
 use borrow.Author.Needs.{needs}
 use Rattle.loads.proofs.grade_of.Statement.{statement}
 use Rattle.loads.proofs.grade_of.Tie as tie
@@ -18,7 +18,7 @@ product : (c : tie.After-shared-slice-known2 Inv-loop μ-loop) →
     getD (c .before .before .before .before .args .sizes .now) (c .before .before .before .loop .k) 0 * getD (c .before .before .before .before .args .x .now) (c .before .before .before .loop .k) 0 ≤ 4294836225
 product c =
     let k = c .before .before .before .loop .k in
-    product16 _ _ (omega (arith, c .before .shared-slice-known .given k)) (omega (arith, c .shared-slice-known2 .given k))
+    product-most 65535 65535 _ _ (omega (arith, c .before .shared-slice-known .given k)) (omega (arith, c .shared-slice-known2 .given k))
 
 loop-holds : tie.Need-loop-holds Inv-loop μ-loop
 loop-holds c = search needs
