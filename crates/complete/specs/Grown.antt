@@ -6,18 +6,17 @@ use mathlib.Core.Logic.{inr}
 use mathlib.Core.List.{List, map}
 use native.Mathlib.Omega.{arith}
 use borrow.Author.Tests.{le-leb, lt-leb}
-use lib.ListN.{length, getD}
+use lib.ListN.{length, getD, length-map}
 use lib.IntN.{ℤ, pos}
 use Rattle.terms.specs.Load.{grade}
 use Rattle.terms.specs.Swaps.{Swap, Reaches}
 use Rattle.terms.specs.Table.{Row, Finished}
 use Rattle.terms.specs.Flat.{leftAt, numbered, swapAt, rowAt, rowsLent, sheetOf, tableOf, filled}
 use Rattle.laws.specs.Load.{all-map}
-use Rattle.laws.specs.Laid.{numbered-long}
+use Rattle.laws.specs.Numbered.{numbered-long}
 use Rattle.padding.specs.Widen.{widenSizes, widenSwap, widenRow, weights, resizeRow}
 use Rattle.padding.specs.Kinds.{weights-long}
 use Rattle.padding.specs.Padded.{wide-sizes-fine, wide-kit, wide-swaps, widened-finished, cut-finished}
-use Rattle.growth.specs.Setting.{length-map}
 use Rattle.growth.specs.State.{stamp, Working, AllDone}
 use Rattle.complete.specs.declared.Completed.the-variants.{Rows}
 use Rattle.complete.specs.Call.{IsFinished, HasRoom, Finishing}
@@ -69,7 +68,7 @@ module _ {n bound : ℕ} {sizes : List ℕ} {costs : List ℤ} {swaps : List ℕ
       finished = λ l. cut-finished (fit .kit) (fit .sheet) bound (tableOf 12 after r) (same-kit bound (tableOf 12 after r) e f g (done .finished l));
       full = λ l T h.
           let m = done .full l (map (widenRow n) T) (same-kit bound (map (widenRow n) T) (sym e) (sym f) (sym g) (widened-finished (fit .kit) (fit .sheet) bound h)) in
-          omega (arith, m, length-map (widenRow n) T);
+          omega (arith, m, length-map T (widenRow n));
     }
 
   -- ---- what it means for the call
@@ -84,7 +83,7 @@ module _ {n bound : ℕ} {sizes : List ℕ} {costs : List ℤ} {swaps : List ℕ
     cut = map (resizeRow n) (tableOf 12 table rows)
 
     cut-long : length cut ≡ rows
-    cut-long = length-map (resizeRow n) (tableOf 12 table rows) ∙ numbered-long (rowAt 12 table) 0 rows
+    cut-long = length-map (tableOf 12 table rows) (resizeRow n) ∙ numbered-long (rowAt 12 table) 0 rows
 
     pub all-fit : rows ≤ rowsLent n rules → (out : List ℕ) → out ≡ filled (length rules) (map (resizeRow n) (tableOf 12 table rows)) → Finishing n bound sizes costs swaps rules (Rows rows, out)
     all-fit l out e =

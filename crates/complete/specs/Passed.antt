@@ -1,6 +1,6 @@
 -- What the tests of what is lent show where all are passed: a kit and a sheet as the theorems ask.
 -- Assumes nothing.
-use Prim.Native.Nat.{ℕ, _+_, _*_, _≤_, _<_}
+use Prim.Native.Nat.{ℕ, _*_, _≤_, _<_}
 use mathlib.Core.Path.{_≡_, sym, ap, subst}
 use mathlib.Core.List.{List}
 use native.Mathlib.Omega.{arith}
@@ -13,7 +13,8 @@ use Rattle.terms.specs.Flat.{swapAt, rowsLent, sheetOf}
 use Rattle.terms.specs.Outcome.{Outcome}
 use Rattle.laws.specs.Outcome.{AllHold, Never, passed, never-turns, turns-hold}
 use Rattle.laws.specs.Load.{all-map}
-use Rattle.laws.specs.Flat.{row-in, left-long, right-long, in-numbered}
+use Rattle.laws.specs.Numbered.{in-numbered}
+use Rattle.laws.specs.Flat.{row-in, left-long, right-long}
 use Rattle.bridge.specs.Rows.{IsSwap, IsSheet}
 use Rattle.bridge.specs.Regular.{IsKit}
 use Rattle.loads.specs.Lent.{Lent}
@@ -47,11 +48,10 @@ module _ (n bound : ℕ) (sizes : List ℕ) (costs : List ℤ) (swaps rules : Li
   -- where each swap has passed, the sheet is one
   sheet-of : rowsLent n swaps * (2 * n) ≡ length swaps → ((i : ℕ) → i < rowsLent n swaps → AllHold (swapTests n sizes swaps rules i)) → IsSheet n sizes (sheetOf n swaps)
   sheet-of whole hold s m =
-      let t = in-numbered (swapAt n swaps) 0 (rowsLent n swaps) m in
-      let i : ℕ = 0 + t .0 in
-      let l : i < rowsLent n swaps = omega (arith, t .1) in
-      let lies = row-in n (rowsLent n swaps) i (length swaps) l (rows-lie n swaps whole) in
-      subst (λ (u : Swap). IsSwap n sizes u) (sym (t .2)) (record { of-left = left-long n swaps i lies; of-right = right-long n swaps i lies; even = hold i l .1 .0 })
+      let t = in-numbered (swapAt n swaps) (rowsLent n swaps) m in
+      let i : ℕ = t .0 in
+      let lies = row-in n (rowsLent n swaps) i (length swaps) (t .1) (rows-lie n swaps whole) in
+      subst (λ (u : Swap). IsSwap n sizes u) (sym (t .2)) (record { of-left = left-long n swaps i lies; of-right = right-long n swaps i lies; even = hold i (t .1) .1 .0 })
 
   pub fit-of : AllHold (inputTests n bound sizes costs swaps rules) → Fit n bound sizes costs swaps
   fit-of h =

@@ -2,8 +2,8 @@
 -- Assumes nothing.
 use Prim.Native.Nat.{ℕ, _≤_, _<_}
 use mathlib.Core.Path.{_≡_, ap, sym, _∙_}
-use mathlib.Core.List.{List, map}
-use lib.ListN.{length, getD, length-map as list-map, List·getD-map}
+use mathlib.Core.List.{List}
+use lib.ListN.{length, getD, length-map, List·getD-map}
 use Rattle.terms.specs.Load.{grade}
 use Rattle.terms.specs.Swaps.{_∈_, Swap}
 use Rattle.terms.specs.Table.{Row}
@@ -24,15 +24,11 @@ pub record Setting (bound : ℕ) (sizes swaps : List ℕ) (count : ℕ) : Type 0
   pub small : bound ≤ 1000
   pub sheet : IsSheet 12 sizes (numbered (swapAt 12 swaps) 0 count)
 
--- as `complete` cites it
-pub length-map : {A B : Type 0} (f : A → B) (l : List A) → length (map f l) ≡ length l
-length-map f l = list-map l f
-
 -- ---- rows of the working table, by their number
 
 module _ (T : List (RowOf (Load 12))) (d : RowOf (Load 12)) (table : List ℕ) (rows : ℕ) (e : plain-table T ≡ tableOf 12 table rows) where
   pub table-long : length T ≡ rows
-  table-long = sym (list-map T plain) ∙ ap length e ∙ numbered-long (rowAt 12 table) 0 rows
+  table-long = sym (length-map T plain) ∙ ap length e ∙ numbered-long (rowAt 12 table) 0 rows
 
   pub row-is : (i : ℕ) → i < rows → plain (getD T i d) ≡ rowAt 12 table i
   row-is i l = sym (List·getD-map plain T i d) ∙ ap (λ (U : List Row). getD U i (plain d)) e ∙ item-at (rowAt 12 table) (plain d) rows i l
@@ -65,7 +61,7 @@ module _ {bound : ℕ} {sizes swaps : List ℕ} {count : ℕ} (weights : List �
   sheet-is = plain-loads-sheet sizes (numbered (swapAt 12 swaps) 0 count) (s .sheet)
 
   pub sheet-long : length SheetOf ≡ count
-  sheet-long = sym (list-map SheetOf plain-swap) ∙ ap length sheet-is ∙ numbered-long (swapAt 12 swaps) 0 count
+  sheet-long = sym (length-map SheetOf plain-swap) ∙ ap length sheet-is ∙ numbered-long (swapAt 12 swaps) 0 count
 
   module _ (e : Load 12 × Load 12) (k : ℕ) (l : k < count) where
     pub swap-is : plain-swap (getD SheetOf k e) ≡ swapAt 12 swaps k

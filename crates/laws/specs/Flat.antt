@@ -9,8 +9,7 @@ use lib.ListN.{length, take, drop, length-take, length-drop}
 use Rattle.terms.specs.Swaps.{_∈_}
 use Rattle.terms.specs.Table.{Row}
 use Rattle.terms.specs.Flat.{leftAt, rightAt, rowAt, tableOf}
-use Rattle.laws.specs.Numbered.{in-numbered as item-of}
-pub use Rattle.laws.specs.Numbered.{in-from as in-numbered}
+use Rattle.laws.specs.Numbered.{in-numbered}
 
 -- row r of `rows` rows lies within the table
 pub row-in : (n rows r len : ℕ) → r < rows → rows * (2 * n) ≤ len → r * (2 * n) + 2 * n ≤ len
@@ -51,5 +50,5 @@ row-sides n flat r lies = record { of-head = left-long n flat r lies; of-tail = 
 
 pub table-sided : (n rows : ℕ) (flat : List ℕ) → rows * (2 * n) ≤ length flat → Sided n (tableOf n flat rows)
 table-sided n rows flat h a m =
-    let t = item-of (rowAt n flat) rows m in
+    let t = in-numbered (rowAt n flat) rows m in
     subst (Sides n) (sym (t .2)) (row-sides n flat (t .0) (row-in n rows (t .0) (length flat) (t .1) h))

@@ -18,7 +18,6 @@ use Rattle.terms.specs.Swaps.{Swap}
 use Rattle.terms.specs.Flat.{numbered, rowAt, swapAt, tableOf, laid, filled}
 use Rattle.laws.specs.Numbered.{numbered-same, numbered-map, numbered-on}
 use Rattle.laws.specs.Flat.{Sides}
-pub use Rattle.laws.specs.Numbered.{numbered-long, more-from as numbered-more}
 
 -- ---- rows of m counts a side
 

@@ -42,7 +42,7 @@ module _ {A : Type 0} (item : ℕ → A) where
   pub numbered-in : (k i : ℕ) → i < k → item i ∈ numbered item 0 k
   numbered-in k i l = subst (λ (j : ℕ). item j ∈ numbered item 0 k) (zero-add i) (from-in 0 k i l)
 
-  pub in-from : (from k : ℕ) {a : A} → a ∈ numbered item from k → (i : ℕ) × (i < k) × (a ≡ item (from + i))
+  in-from : (from k : ℕ) {a : A} → a ∈ numbered item from k → (i : ℕ) × (i < k) × (a ≡ item (from + i))
   in-from from zero m = absurd (List·Memᴰ·not-nil m)
   in-from from (suc k) {a} m =
       ⊎-elim (λ (e : a ≡ item from). (0, omega arith, e ∙ ap item (omega arith)))
@@ -54,7 +54,7 @@ module _ {A : Type 0} (item : ℕ → A) where
 
   -- ---- one more
 
-  pub more-from : (from k : ℕ) → numbered item from (suc k) ≡ numbered item from k ++ (item (from + k) ∷ [])
+  more-from : (from k : ℕ) → numbered item from (suc k) ≡ numbered item from k ++ (item (from + k) ∷ [])
   more-from from zero = ap (λ (i : ℕ). item i ∷ []) (omega arith)
   more-from from (suc k) =
       ap (λ (l : List A). item from ∷ l) (more-from (suc from) k ∙ ap (λ (i : ℕ). numbered item (suc from) k ++ (item i ∷ [])) (omega arith))

@@ -1,16 +1,15 @@
--- A row of a flat table as one part, and a table with one row more. Assumes nothing.
+-- A row of a flat table as one part. Assumes nothing.
 use Prim.Native.Nat.{ℕ, _+_, _*_, _-_, _<_, _≤_}
 use mathlib.Core.Path.{_≡_, sym, ap, _∙_}
 use borrow.Rule.Slice.PartMut.{putMid, drop-put}
-use mathlib.Core.List.{List, [], _∷_, _++_}
-use native.Mathlib.Nat.{zero-add, mul-le-mul-right, suc-mul}
+use mathlib.Core.List.{List, _++_}
+use native.Mathlib.Nat.{mul-le-mul-right, suc-mul}
 use native.Mathlib.Numerals.{add-one}
 use native.Mathlib.Omega.{arith}
 use lib.ListN.{length, take, drop, length-take, length-drop}
 use lib.Seq.{take-add, drop-drop}
-use Rattle.terms.specs.Flat.{leftAt, rightAt, numbered}
+use Rattle.terms.specs.Flat.{leftAt, rightAt}
 use Rattle.laws.specs.Flat.{part-is}
-use Rattle.laws.specs.Laid.{numbered-more}
 
 -- item i of `count` items of w numbers lies within the list
 pub item-in : (w count i long : ℕ) → i < count → count * w ≤ long → i * w + w ≤ long
@@ -47,8 +46,3 @@ module _ (w i : ℕ) (xs xs₀ : List ℕ) (same : drop (i * w) xs ≡ drop (i *
 
 pub item-long : (w i : ℕ) (xs : List ℕ) → i * w + w ≤ length xs → length (take (i * w + w - i * w) (drop (i * w) xs)) ≡ w
 item-long w i xs h = simp (length-take, length-drop) (omega arith)
-
--- the first k + 1 items
-pub numbered-next : {A : Type 0} (item : ℕ → A) (k : ℕ) → numbered item 0 (k + 1) ≡ numbered item 0 k ++ (item k ∷ [])
-numbered-next {A} item k =
-    ap (numbered item 0) (add-one k) ∙ numbered-more item 0 k ∙ ap (λ (i : ℕ). numbered item 0 k ++ (item i ∷ [])) (zero-add k)

@@ -7,7 +7,7 @@ use Rattle.laws.specs.Flat.{row-in}
 use Rattle.print.specs.Lines.{Stored}
 use Rattle.print.proofs.Storing.{stored-none, stored-then, stored-length, each-snoc}
 use Rattle.report.specs.Report.{rowLine, ruleLines, rowMost}
-use Rattle.report.proofs.Rows.{numbered-next}
+use Rattle.laws.specs.Numbered.{numbered-more}
 use Rattle.report.proofs.rule_lines.Statement.{statement}
 use Rattle.report.proofs.rule_lines.Tie as tie
 
@@ -38,7 +38,7 @@ loop-again c =
     let a = c .before .before .before .before .before .before .before .before .before .args in
     let x = c .before .before .before .before .before .loop in (
       omega arith,
-      rw (numbered-next (rowAt (a .n) (a .rules .now)) (x .r), each-snoc (rowLine (a .sizes .now)) (tableOf (a .n) (a .rules .now) (x .r)) (rowAt (a .n) (a .rules .now) (x .r)))
+      rw (numbered-more (rowAt (a .n) (a .rules .now)) (x .r), each-snoc (rowLine (a .sizes .now)) (tableOf (a .n) (a .rules .now) (x .r)) (rowAt (a .n) (a .rules .now) (x .r)))
           (stored-then (x .inv .1) (c .before .before .rule-at .ensures .0)),
       omega arith,
     )
