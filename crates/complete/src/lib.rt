@@ -13,7 +13,7 @@ ghost use Rattle.complete.specs.Call.{Lengths, input_tests, Finishing, Completin
 use terms::{Kit, Refusal};
 
 // What completing answers: the number of rows, or why not, with the swap's number for a bad swap and 0 for any other reason.
-#[derive(Drop)]
+#[derive(Clone, Copy)]
 pub enum Completed {
     Rows(usize),
     Refused(Refusal, usize),

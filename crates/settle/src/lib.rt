@@ -12,7 +12,7 @@ ghost use Rattle.settle.specs.Call.{Lengths, tests, Settling};
 use terms::{Kit, Refusal};
 
 // What settling answers: done, or why not, with the row's number for a bad row and 0 for any other reason.
-#[derive(Drop)]
+#[derive(Clone, Copy)]
 pub enum Settled {
     Done,
     Refused(Refusal, usize),

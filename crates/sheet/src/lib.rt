@@ -10,7 +10,7 @@ use shapes::Step;
 use terms::{Kit, Refusal};
 
 // What a sheet has: n, B, and how many swaps and loads.
-#[derive(Drop)]
+#[derive(Clone, Copy)]
 pub struct Counts {
     pub kinds: usize,
     pub bound: usize,
@@ -18,7 +18,7 @@ pub struct Counts {
     pub loads: usize,
 }
 
-#[derive(Drop)]
+#[derive(Clone, Copy)]
 pub enum Read {
     Sheet(Counts),
     Refused(Refusal, usize),

@@ -2,7 +2,7 @@
 ghost use Rattle.std.specs.Prelude.{◌≡◌};
 
 // A kit: how many kinds of part it has, and the bound on a load's grade.
-#[derive(Drop)]
+#[derive(Clone, Copy)]
 pub struct Kit {
     pub kinds: usize,
     pub bound: usize,
@@ -35,7 +35,7 @@ impl Kit {
 }
 
 // Why a call refuses, in the sequence of document 01's table; specs/Refusals.antt has the numbers.
-#[derive(Drop)]
+#[derive(Clone, Copy)]
 pub enum Refusal {
     Kinds,
     Bound,
