@@ -11,7 +11,7 @@ module _ (K : Kit) where
   open K use {L, ◌⊕◌, rank}
 
   -- the first row that fits in `y` is the first in any lesser load that it fits in
-  pub first_down : {T : List (Row L)} {x y : L} {r : Row L} → Fits K x y → First K y r T → Fits K r.head x → First K x r T
+  pub first_down : {x y : L} {r : Row L} {T : List (Row L)} → Fits K x y → First K y r T → Fits K r.head x → First K x r T
   first_down f (hit e fy) fx = hit e fx
   first_down {x = x} {y = y} f (miss {b = b} n s) fx = miss (λ h. n (fits_trans K b.head x y h f)) (first_down f s fx)
 
