@@ -21,7 +21,8 @@ use Rattle.terms.specs.Settling.{Proper, NoneFits, Settles, Leads}
 use Rattle.laws.specs.Order.{before_laws}
 use Rattle.laws.specs.Flat.{Sided}
 use Rattle.theory.specs.Rows.{Row as RowOf, AllProper}
-use Rattle.theory.specs.Finished.{finished_some, finished_one}
+use Rattle.theory.specs.Finished.{finished_one}
+use Rattle.theory.proofs.Finished.{finished_some}
 use Rattle.theory.specs.Room.{distinct_le}
 use Rattle.bridge.specs.Instance.{Load}
 use Rattle.bridge.specs.Carry.{in_order, mem_unmap}

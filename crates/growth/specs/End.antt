@@ -10,7 +10,8 @@ use Rattle.theory.specs.Kit.{Kit, Fits as FitsIn}
 use Rattle.theory.specs.Rows.{Row as RowOf, AllProper}
 use Rattle.theory.specs.Table.{Alike, Table}
 use Rattle.theory.specs.Critical.{New}
-use Rattle.theory.specs.Chain.{Covered, Pivots, covered_pivots}
+use Rattle.theory.specs.Chain.{Covered, Pivots}
+use Rattle.theory.proofs.Chain.{covered_pivots}
 use Rattle.theory.specs.Index.{at_mem}
 use Rattle.theory.specs.Tails.{Tails}
 use Rattle.theory.specs.Loop.{listed_done}

@@ -9,7 +9,7 @@ use Rattle.terms.specs.Swaps.{Reaches}
 use Rattle.terms.specs.Flat.{left_at, numbered, swap_at, table_of}
 use Rattle.theory.specs.Kit.{Kit}
 use Rattle.theory.specs.Unique.{Sorted.none}
-use Rattle.theory.specs.Loop.{grade_skip}
+use Rattle.theory.proofs.Loop.{grade_skip}
 use Rattle.pairs.specs.Pairs.{common, Listed, PairList}
 use Rattle.bridge.specs.Instance.{Load}
 use Rattle.bridge.specs.Sheet.{sheet_finished, found_no_more}

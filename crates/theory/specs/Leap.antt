@@ -1,6 +1,6 @@
 -- Settling by leaps: where one row is the first that fits a load `y` which holds every load on the way, the row may be
 -- applied so many times at once.
-use Rattle.std.specs.Prelude.{ℕ, zero, suc, ◌-◌, ◌<◌, ◌≡◌, refl, List}
+use Rattle.std.specs.Prelude.{ℕ, zero, suc, ◌<◌, ◌≡◌, refl, List}
 use Rattle.std.proofs.Common.{ap, ◌∙◌, arith}
 use Rattle.theory.specs.Kit.{Kit, Fits, fits_trans}
 use Rattle.theory.specs.Rows.{Row, AllProper, First, hit, miss, first_mem, step_rank}

@@ -20,7 +20,8 @@ use Rattle.theory.specs.Kit.{Kit}
 use Rattle.theory.specs.Rows.{Row as RowOf, AllProper}
 use Rattle.theory.specs.Settle.{nf}
 use Rattle.theory.specs.Table.{table_proper}
-use Rattle.theory.specs.Finished.{Finished as FinishedIn, finished_some}
+use Rattle.theory.specs.Finished.{Finished as FinishedIn}
+use Rattle.theory.proofs.Finished.{finished_some}
 use Rattle.bridge.specs.Instance.{Load}
 use Rattle.bridge.specs.Rows.{plain_table, IsSwap, IsSheet, loads_sheet, loads_even}
 use Rattle.bridge.specs.Tables.{ByCounts, by_counts}

@@ -9,8 +9,10 @@ use Rattle.theory.specs.Rows.{first?, first_fits}
 use Rattle.theory.specs.Settle.{nf, settle_by, onward}
 use Rattle.theory.specs.Grow.{later_refl, later_trans}
 use Rattle.theory.specs.Tails.{told}
-use Rattle.theory.specs.Complete.{one_pair, each, pair_step, all_pairs, given_step, next_grade, some_table, sheet_source, sheet_table}
-use Rattle.theory.specs.Finished.{finished_some, finished_sorted, in_order, place, above_total}
+use Rattle.theory.specs.Complete.{one_pair, each, pair_step, all_pairs, given_step, sheet_source}
+use Rattle.theory.proofs.Complete.{next_grade, some_table, sheet_table}
+use Rattle.theory.specs.Finished.{finished_sorted, in_order, place, above_total}
+use Rattle.theory.proofs.Finished.{finished_some}
 use Rattle.bridge.specs.Instance.{rest?, rest_of, three}
 use Rattle.bridge.specs.Carry.{raised}
 use Rattle.bridge.specs.Tables.{by_counts}
