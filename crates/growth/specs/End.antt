@@ -1,6 +1,6 @@
 -- The end of a grade, in the theory: with the swaps and the listed pairs of the grade joined and the tails settled, the table is right up to that grade.
 -- Assumes nothing.
-use Rattle.std.specs.Prelude.{ℕ, suc, ◌+◌, ◌*◌, ◌≤◌, ◌<◌, ◌≡◌, List, ◌++◌, length, get_or}
+use Rattle.std.specs.Prelude.{ℕ, suc, ◌*◌, ◌≤◌, ◌<◌, ◌≡◌, List, ◌++◌, length, get_or}
 use Rattle.std.proofs.Common.{ap₂, sym, subst, arith}
 use Rattle.terms.specs.Load.{grade, Fits}
 use Rattle.terms.specs.Swaps.{◌∈◌}
