@@ -5,5 +5,4 @@ pub mod Spelled
 pub mod Lines
 pub mod Back
 pub mod Placed
-pub mod Call
 pub mod Worked

@@ -1,20 +1,19 @@
--- Numbers and costs as they are written read back as them, of any size. Assumes nothing.
-use Rattle.std.specs.Prelude.{ℕ, zero, suc, ◌+◌, ◌-◌, ◌*◌, ◌/◌, ◌%◌, ◌≤◌, ◌<◌, ◌≡◌, refl, List, [], ◌∷◌, ◌++◌, Bool, true, false, ltb, ℤ, pos, negsuc}
+-- Numbers as they are written read back as them, of any size; costs do in `proofs/Spelled`. Assumes nothing.
+use Rattle.std.specs.Prelude.{ℕ, zero, suc, ◌+◌, ◌-◌, ◌*◌, ◌/◌, ◌%◌, ◌≤◌, ◌<◌, ◌≡◌, refl, List, [], ◌∷◌, ◌++◌, Bool, true, false, ltb, pos}
 use Rattle.std.proofs.Common.{sym, ap, subst, ◌∙◌, arith, le-leb, ne_eqb, ltb-true, ltb-false}
 use Rattle.std.proofs.Math.Option.{none, some}
 use Rattle.terms.specs.Limits.{All}
 use Rattle.texts.specs.Number.{plain, value_after, number_of}
 use Rattle.texts.specs.Number as number
-use Rattle.shapes.specs.Split.{less, cost_of}
+use Rattle.shapes.specs.Split.{cost_of}
 use Rattle.print.specs.Lines.{digits}
 use Rattle.print.proofs.Digits.{digits_one, digits_more}
-use Rattle.written.specs.Write.{cost_digits}
 use Rattle.written.specs.Parts.{Free, all_append}
 
 -- ## What digits are
 
 -- a digit, and what begins with one other than 0
-abbrev Digit : ℕ → Type 0
+abbrev pub Digit : ℕ → Type 0
 Digit b = (48 ≤ b) × (b ≤ 57)
 
 pub record Leads (l : List ℕ) : Type 0 where
@@ -24,7 +23,7 @@ pub record Leads (l : List ℕ) : Type 0 where
   pub high : 49 ≤ front
 
 -- the digits of v
-record Written (v : ℕ) (l : List ℕ) : Type 0 where
+pub record Written (v : ℕ) (l : List ℕ) : Type 0 where
   pub all : All Digit l
   pub value : value_after 0 l ≡ v
   pub leads : 1 ≤ v → Leads l
@@ -61,7 +60,7 @@ written_to (suc k) v h = go (ltb v 10) refl (written_to k (v / 10))
         let big : 10 ≤ v = ltb-false v 10 e in
         subst (Written v) (sym (digits_more v big)) (written_more v (digits (v / 10)) big (rest (omega arith)))
 
-written : (v : ℕ) → Written v (digits v)
+pub written : (v : ℕ) → Written v (digits v)
 written v = written_to v v (omega arith)
 
 -- ## They read back
@@ -86,13 +85,9 @@ no_number : number_of [] ≡ none
 unfolding number.digits
 no_number = refl
 
-more_back : (v : ℕ) (l : List ℕ) → All Digit l → number_of l ≡ some v → cost_of l ≡ some (pos v)
+pub more_back : (v : ℕ) (l : List ℕ) → All Digit l → number_of l ≡ some v → cost_of l ≡ some (pos v)
 more_back v [] h e = absurd (let z : ◌≡◌ {A = ℕ} 0 1 = cc no_number in omega arith)
 more_back v (b ∷ l) h e = rw (ne_eqb b 45 (λ z. omega (arith, h.0.0)), e)
-
-pub cost_back : (z : ℤ) → cost_of (cost_digits z) ≡ some z
-cost_back (pos v) = more_back v (digits v) (written v).all (number_back v)
-cost_back (negsuc v) = ap less (number_back (suc v)) ∙ rw (ne_eqb (suc v) 0 (λ e. omega arith))
 
 -- ## No digit, and no minus, is a tab or a line feed
 
@@ -102,7 +97,3 @@ digits_free b (c ∷ l) h k = (ne_eqb c b (λ e. omega (arith, k.0.0)), digits_f
 
 pub number_free : (b : ℕ) → b < 45 → (v : ℕ) → Free b (digits v)
 number_free b h v = digits_free b (digits v) (omega arith) (written v).all
-
-pub cost_free : (b : ℕ) → b < 45 → (z : ℤ) → Free b (cost_digits z)
-cost_free b h (pos v) = number_free b h v
-cost_free b h (negsuc v) = (ne_eqb 45 b (λ e. omega arith), number_free b h (suc v))

@@ -1,11 +1,7 @@
--- Document 01's sheet of kit A, written byte for byte as it stands there, and read back. Assumes nothing.
+-- The sheet of kit A and its bytes, a line to a line; that it is written so and reads back is proved in `proofs/Worked`. Assumes nothing.
 use Rattle.std.specs.Prelude.{ℕ, ◌≡◌, refl, List, [], ◌∷◌, pos, drop}
-use Rattle.std.proofs.Common.{sym, ap, ◌∙◌, arith, rules}
-use Rattle.shapes.specs.Split.{fine}
-use Rattle.print.specs.Lines.{digits}
-use Rattle.sheet.specs.Sheet.{sheet_of}
-use Rattle.written.specs.Write.{Content, Within, line_of, text_of, sheet_for}
-use Rattle.written.specs.Back.{reads_back}
+use Rattle.std.proofs.Common.{ap, arith, rules}
+use Rattle.written.specs.Write.{Content, Within}
 
 -- kit A with its two swaps, and the loads 0 2 0 1 and 0 0 0 4
 abbrev pub sheet_a : Content
@@ -32,15 +28,11 @@ bytes_a =
     ∷ 108 ∷ 111 ∷ 97 ∷ 100 ∷ 9 ∷ 48 ∷ 9 ∷ 50 ∷ 9 ∷ 48 ∷ 9 ∷ 49 ∷ 10
     ∷ 108 ∷ 111 ∷ 97 ∷ 100 ∷ 9 ∷ 48 ∷ 9 ∷ 48 ∷ 9 ∷ 48 ∷ 9 ∷ 52 ∷ 10 ∷ []
 
-pub text_a : text_of sheet_a ≡ bytes_a
-unfolding line_of digits
-text_a = refl
-
 -- loads that begin with other counts differ
 other_head : (a b : ℕ) (x y : List ℕ) → a ∷ x ≡ b ∷ y → (a ≡ b → ⊥) → ⊥
 other_head a b x y e n = n (cc)
 
-within_a : Within sheet_a
+pub within_a : Within sheet_a
 within_a =
     record {
       kinds_fine = (omega arith, omega arith);
@@ -57,6 +49,3 @@ within_a =
       loads_few = omega arith;
       loads_fine = search rules;
     }
-
-pub back_a : sheet_of bytes_a ≡ fine (sheet_for sheet_a)
-back_a = ap sheet_of (sym text_a) ∙ reads_back sheet_a within_a

@@ -6,7 +6,7 @@ use Rattle.laws.specs.Outcome.{taken}
 use Rattle.shapes.specs.Split.{fine}
 use Rattle.sheet.specs.Sheet.{Result, Reads, tests, swap_room, load_room, sheet_of, result_of}
 use Rattle.written.specs.Write.{Content, Within, text_of, sheet_for}
-use Rattle.written.specs.Back.{reads_back}
+use Rattle.written.proofs.Back.{reads_back}
 
 pub call_back : (c : Content) → Within c → length (text_of c) ≤ most_text
     → (sizes : List ℕ) (costs : List ℤ) (swaps loads : List ℕ) → length sizes ≡ most_kinds → length costs ≡ most_kinds → length swaps ≡ swap_room → length loads ≡ load_room
