@@ -78,16 +78,16 @@ module _ {n : ℕ} {sizes : List ℕ} {costs : List ℤ} {sheet : List Swap} (fi
   beside_step : {x y w z : List ℕ} → length x ≡ n → Further n z → (v : Beside x z y) (h t : List ℕ) → length h ≡ n → length t ≡ n → Step (widen n h) (widen n t) y w → Step h t v.0 (exchange h t v.0) × (exchange h t v.0 ++ z ≡ w)
   beside_step {z = z} e k v h t p q s = step_narrow n h t v.0 z p q k (reg.keeps e v.1) (rw v.2 s)
 
-  pub reach_narrow : {x w : List ℕ} (z : List ℕ) → length x ≡ n → Further n z → WideReach (x ++ z) w → Beside x z w
+  pub reach_narrow : {x : List ℕ} (z : List ℕ) {w : List ℕ} → length x ≡ n → Further n z → WideReach (x ++ z) w → Beside x z w
   reach_narrow {x} z e k (stay d) = (x, stay refl, d)
-  reach_narrow {x} {w} z e k (forth {y = y} s m r st) = go (reach_narrow z e k r) (mem_unmap (widen_swap n) sheet m)
+  reach_narrow {x} z {w} e k (forth {y = y} s m r st) = go (reach_narrow z e k r) (mem_unmap (widen_swap n) sheet m)
     where
       go : Beside x z y → (t : Swap) × (t ∈ sheet) × (widen_swap n t ≡ s) → Beside x z w
       go v t =
           let g = swaps t.0 t.1 in
           let o = beside_step e k v t.0.left t.0.right g.of_left g.of_right (rw (← t.2) at st) in
           (exchange t.0.left t.0.right v.0, forth t.0 t.1 v.1 o.0, o.1)
-  reach_narrow {x} {w} z e k (back {y = y} s m r st) = go (reach_narrow z e k r) (mem_unmap (widen_swap n) sheet m)
+  reach_narrow {x} z {w} e k (back {y = y} s m r st) = go (reach_narrow z e k r) (mem_unmap (widen_swap n) sheet m)
     where
       go : Beside x z y → (t : Swap) × (t ∈ sheet) × (widen_swap n t ≡ s) → Beside x z w
       go v t =
