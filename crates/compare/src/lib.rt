@@ -1,4 +1,6 @@
 // The cost order on lent loads. A change of the order changes this crate, `terms/specs/Order.antt` and `laws/specs/Order.antt`.
+#![tactic(auto)]
+
 ghost use Rattle.std.specs.Prelude.{◌≡◌, ◌≤◌, length};
 ghost use Rattle.terms.specs.Decides.{Decides};
 ghost use Rattle.terms.specs.Limits.{All, CostFine, most_kinds};

@@ -1,5 +1,5 @@
 -- How `field_is` goes along a word and a text, and what the fields at a place are, as the code finds them. Assumes nothing.
-use Prim.Native.Nat.{ℕ, suc, ◌+◌, min, ◌≤◌, ◌<◌}
+use Prim.Native.Nat.{ℕ, suc, ◌+◌, ◌≤◌, ◌<◌}
 use mathlib.Core.Path.{◌≡◌, refl, ap, sym, ◌∙◌}
 use mathlib.Core.List.{List, [], ◌∷◌}
 use mathlib.Core.Bool.{Bool, true, false, cond, ◌&&◌, not}
@@ -12,9 +12,9 @@ use lib.Seq.{drop-cons}
 use borrow.Author.Tests.{eq-eqb, ne_eqb, eqb-true}
 use Rattle.texts.specs.declared.Num.{Num}
 use Rattle.texts.specs.declared.Num.TheVariants as num
-use Rattle.texts.specs.Number.{cap, held, number_of, digits, ends_field, piece, closed, number_at}
-use Rattle.lines.specs.declared.Field.TheVariants.{Word, Number, Minus, Feed, Bad}
-use Rattle.lines.specs.Fields.{same, kit_word, size_word, cost_word, swap_word, load_word, word_of, worded, numbered, lessened, signed, word_in, number_in, minus_in, field_at, field_is}
+use Rattle.texts.specs.Number.{held, number_of, digits, ends_field, piece, closed, number_at}
+use Rattle.lines.specs.declared.Field.TheVariants.{Word, Number, Bad}
+use Rattle.lines.specs.Fields.{same, kit_word, size_word, cost_word, swap_word, load_word, word_of, worded, numbered, lessened, signed, word_in, number_in, minus_in, field_is}
 
 -- ## The loop over a word
 
@@ -154,21 +154,6 @@ a_number v n next true none e = distinct _ _ _ refl e
 a_number v n next true (some x) e = cc
 a_number v n next false o e = distinct _ _ _ refl e
 
-no_minus : (next : ℕ) (c : Bool) (o : Option ℕ) → cond c (held next o) num.Bad ≡ num.Bad → Bad ≡ cond c (lessened next o) Bad
-no_minus next true none e = refl
-no_minus next true (some x) e = distinct _ _ _ e refl
-no_minus next false o e = refl
-
-minus_zero : (v n next : ℕ) (c : Bool) (o : Option ℕ) → cond c (held next o) num.Bad ≡ num.Value v n → v ≡ 0 → Bad ≡ cond c (lessened next o) Bad
-minus_zero v n next true none e z = refl
-minus_zero v n next true (some x) e z = let m : min cap x ≡ v = cc in rw (eq-eqb x 0 (omega arith))
-minus_zero v n next false o e z = refl
-
-a_minus : (v n next : ℕ) (c : Bool) (o : Option ℕ) → cond c (held next o) num.Bad ≡ num.Value v n → (v ≡ 0 → ⊥) → Minus v n ≡ cond c (lessened next o) Bad
-a_minus v n next true none e z = distinct _ _ _ refl e
-a_minus v n next true (some x) e z = let m : min cap x ≡ v = cc in rw (ne_eqb x 0 (λ y. z (omega arith))) (cc)
-a_minus v n next false o e z = distinct _ _ _ refl e
-
 -- a field that does not begin with a minus
 unsigned : (next : ℕ) (p : List ℕ) → (get_or p 0 0 ≡ 45 → ⊥) → signed next p ≡ numbered next (number_of p)
 unfolding digits
@@ -201,31 +186,8 @@ module _ (s : List ℕ) (at : ℕ) where
   abbrev l : List ℕ
   l = drop at s
 
-  pub minus_none : number_at s at ≡ num.Bad → Bad ≡ minus_in (drop at s) at
-  minus_none e = no_minus (at + length (piece l)) (closed l) (number_of (piece l)) e
-
-  pub minus_nought : (v n : ℕ) → number_at s at ≡ num.Value v n → v ≡ 0 → Bad ≡ minus_in (drop at s) at
-  minus_nought v n e z = minus_zero v n (at + length (piece l)) (closed l) (number_of (piece l)) e z
-
-  pub minus_some : (v n : ℕ) → number_at s at ≡ num.Value v n → (v ≡ 0 → ⊥) → Minus v n ≡ minus_in (drop at s) at
-  minus_some v n e z = a_minus v n (at + length (piece l)) (closed l) (number_of (piece l)) e z
-
   pub number_none : at < length s → (get_or s at 0 ≡ 45 → ⊥) → number_at s at ≡ num.Bad → Bad ≡ number_in (drop at s) at
   number_none h n e = no_number (at + length (piece l)) (closed l) (number_of (piece l)) e ∙ sym (other h n)
 
   pub number_some : at < length s → (get_or s at 0 ≡ 45 → ⊥) → (v n : ℕ) → number_at s at ≡ num.Value v n → Number v n ≡ number_in (drop at s) at
   number_some h n v m e = a_number v m (at + length (piece l)) (closed l) (number_of (piece l)) e ∙ sym (other h n)
-
-  -- ## The field at a place
-
-  pub ended : length s ≤ at → Bad ≡ field_at s at
-  ended h = rw (drop_of_length-le s h)
-
-  pub tab : at < length s → get_or s at 0 ≡ 9 → number_in (drop (at + 1) s) (at + 1) ≡ field_at s at
-  tab h e = rw (drop-cons s at 0 h, eq-eqb _ _ e) (rw (add-one at))
-
-  pub feed : at < length s → (get_or s at 0 ≡ 9 → ⊥) → get_or s at 0 ≡ 10 → Feed (at + 1) ≡ field_at s at
-  feed h n e = rw (drop-cons s at 0 h, ne_eqb _ _ n, eq-eqb _ _ e)
-
-  pub word : at < length s → (get_or s at 0 ≡ 9 → ⊥) → (get_or s at 0 ≡ 10 → ⊥) → word_in (drop at s) at ≡ field_at s at
-  word h n m = rw (drop-cons s at 0 h, ne_eqb _ _ n, ne_eqb _ _ m)

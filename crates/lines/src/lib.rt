@@ -1,5 +1,7 @@
 // A line reader that keeps the caller's bytes and its place. What stands at a place of a line is the word that begins it, a tab
 // with a number, or the line feed; `field_at` finds it, on a plain slice.
+#![tactic(auto)]
+
 ghost use Rattle.std.specs.Prelude.{◌≡◌, ◌≤◌, length, drop};
 ghost use Rattle.lines.specs.Fields.{field_is, word_in, minus_in, number_in, field_at};
 

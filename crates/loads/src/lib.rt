@@ -1,4 +1,6 @@
 // Loads in lent slices, and the rows of flat tables: each function decides or computes one definition.
+#![tactic(auto)]
+
 ghost use Rattle.std.specs.Prelude.{◌≡◌, ◌+◌, ◌*◌, ◌≤◌, length};
 ghost use Rattle.terms.specs.Decides.{Decides};
 ghost use Rattle.terms.specs.Load.{Fits, grade};

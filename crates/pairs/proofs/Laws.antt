@@ -6,8 +6,6 @@ use mathlib.Core.Logic.{⊎_elim}
 use mathlib.Core.List.{List}
 use native.Mathlib.Nat.{eq-or-lt_of_le, le_of_suc-le-suc}
 use native.Mathlib.Omega.{arith}
-use borrow.Author.Count.{below_more}
-use lib.ListN.{get_or}
 use Rattle.terms.specs.Load.{Fits, grade}
 use Rattle.terms.specs.Flat.{left_at}
 use Rattle.laws.specs.Load.{join}
@@ -57,16 +55,6 @@ module _ (table table' : List ℕ) (n : ℕ) (same : (r : ℕ) → r < n → lef
 
 pub next_above_start : (grades : List ℕ) (g limit : ℕ) → g < limit → NextAbove grades 0 g limit limit
 next_above_start grades g limit l = record { above = l; within = omega arith; least = λ k h. absurd (omega arith) }
-
--- one grade more is passed, and s is no more than r, nor than that grade where it counts
-pub next_above_more :
-    (grades : List ℕ) (k g limit r s : ℕ) → NextAbove grades k g limit r → g < s → s ≤ r
-    → (g < get_or grades k 0 → get_or grades k 0 < limit → s ≤ get_or grades k 0) → NextAbove grades (k + 1) g limit s
-next_above_more grades k g limit r s n a b h = record {
-  above = a;
-  within = omega (arith, n.within);
-  least = below_more (λ i. g < get_or grades i 0 → get_or grades i 0 < limit → s ≤ get_or grades i 0) k (λ i l p q. omega (arith, n.least i l p q)) h;
-}
 
 -- ---- what entering asks
 

@@ -1,4 +1,6 @@
 // The list of pairs: which pairs of rows of the working table are to be joined, and at which grade.
+#![tactic(auto)]
+
 ghost use Rattle.std.specs.Prelude.{◌≡◌, ℕ, ◌+◌, ◌*◌, ◌<◌, ◌≤◌, max, length, get_or};
 ghost use Rattle.terms.specs.Decides.{Decides};
 ghost use Rattle.terms.specs.Load.{Fits, grade};

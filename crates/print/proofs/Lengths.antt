@@ -1,9 +1,9 @@
 -- How long a line is at most, for whoever lends the buffer: a count has at most five digits, and any number of the machine at most twenty. Assumes nothing.
-use Prim.Native.Nat.{ℕ, suc, ◌+◌, ◌*◌, ◌^◌, ◌≤◌, ◌<◌}
+use Prim.Native.Nat.{ℕ, suc, ◌*◌, ◌≤◌, ◌<◌}
 use mathlib.Core.List.{List, [], ◌∷◌, ◌++◌}
 use native.Mathlib.Omega.{arith}
 use lib.ListN.{length, get_or, length-append}
-use Rattle.print.specs.Lines.{digits, field, fields, rule_line, done_line, refused_line, rule_most, done_most, refused_most}
+use Rattle.print.specs.Lines.{field, fields, rule_line, done_line, refused_line, rule_most, done_most, refused_most}
 use Rattle.print.proofs.Digits.{digits_most}
 
 -- numbers of 64 and of 16 bits

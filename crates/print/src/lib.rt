@@ -1,4 +1,6 @@
 // The lines that the program prints, stored in a lent buffer from a place on. Each function answers the place after what it stored.
+#![tactic(auto)]
+
 ghost use Rattle.std.specs.Prelude.{[], ◌∷◌, ◌+◌, ◌≤◌, length};
 ghost use Rattle.print.specs.Lines.{digits, field, fields, Room, Stored, rule_line, done_line, refused_line};
 ghost use Rattle.print.specs.Lines.{rule_most, done_most, refused_most};

@@ -9,8 +9,6 @@ use lib.IntN.{ℤ}
 use lib.ListN.{length, get_or, take, drop, get_or-map}
 use lib.Seq.{take-append_seam, take-take, take-nil, drop-drop}
 use native.Mathlib.Nat.{mul-le-mul_right, add-mul, one-mul, zero-add, suc-add}
-use types.Run.{OneOf}
-use denote.Enum.Declared.{tag_of}
 use borrow.Author.Tests.{le-leb, lt-leb, lt-ltb, le-ltb, ltb-true, eq-eqb, ne_eqb, eqb-true}
 use Rattle.terms.specs.declared.Kit.{Kit}
 use Rattle.terms.specs.declared.Refusal.{Refusal}
@@ -21,7 +19,6 @@ use Rattle.texts.specs.Number.{number_of, cap}
 use Rattle.lines.specs.Fields.{same}
 use Rattle.shapes.specs.declared.Step.{Step}
 use Rattle.shapes.specs.declared.Step.TheVariants.{On, Other, Refused}
-use Rattle.shapes.specs.contracts.Step as T
 use Rattle.shapes.specs.Split.{Got, fine, wrong, split, first, rest, shaped, read_line, cost_of}
 use Rattle.shapes.specs.Rows.{code_of, step_got, is_other}
 use Rattle.records.specs.Lines.{Pieces, after, ask, all, within, kit_of, kit_line, size_line, cost_fine, cost_line, counts_line, sides_of}
@@ -43,7 +40,7 @@ module _ (line w k n : ℕ) (ps : Pieces) (r : Step) (out s : List ℕ) (long : 
   plain_said : read_line line (shaped w (code_of false) n) ps ≡ step_got line r out s
   plain_said = ap (λ (m : ℕ). read_line line (shaped w (code_of false) m) ps) (sym long) ∙ said
 
-  pub plain_shut : OneOf (1 ∷ 2 ∷ []) (tag_of T.the_type r) → Plain ≡ wrong BadLine line
+  pub plain_shut : ((next : ℕ) → r ≡ On next → ⊥) → Plain ≡ wrong BadLine line
   plain_shut h = shut (min cap) line (shaped w number_of n (first ps)) (rest ps) r out s (sym (plain_line line w n ps) ∙ plain_said) h
 
   pub plain_open : (next : ℕ) → r ≡ On next → Opened (min cap) Plain out (split 10 (drop next s))
@@ -126,7 +123,7 @@ module _ (k n : ℕ) (ps : Pieces) (r : Step) (out s : List ℕ) (long : k ≡ n
   costs_said : read_line 3 (shaped 2 (code_of true) n) ps ≡ step_got 3 r out s
   costs_said = ap (λ (m : ℕ). read_line 3 (shaped 2 (code_of true) m) ps) (sym long) ∙ said
 
-  pub costs_shut : OneOf (1 ∷ 2 ∷ []) (tag_of T.the_type r) → cost_line n ps ≡ wrong BadLine 3
+  pub costs_shut : ((next : ℕ) → r ≡ On next → ⊥) → cost_line n ps ≡ wrong BadLine 3
   costs_shut h = ap (λ (g : Got (List ℤ × Pieces)). after g (λ r. ask (all cost_fine r.0) Cost 3 (fine r))) (shut code 3 (shaped 2 cost_of n (first ps)) (rest ps) r out s (sym (cost_line_lem 3 2 n ps) ∙ costs_said) h)
 
   pub costs_open : (next : ℕ) → r ≡ On next → Opened code Costs out (split 10 (drop next s))

@@ -1,15 +1,12 @@
 -- Numbers held at cap, and costs by their distance above -cap: no test sees it, and what passes the tests is as it was. Assumes nothing.
 use Prim.Native.Nat.{ℕ, zero, suc, ◌+◌, ◌-◌, min, ◌≤◌, ◌<◌}
 use mathlib.Core.Path.{◌≡◌, refl, ap, sym, ◌∙◌}
-use mathlib.Core.Logic.{⊎_elim}
 use mathlib.Core.List.{List, [], ◌∷◌, map}
 use mathlib.Core.Bool.{Bool, true, false, cond, ◌&&◌}
 use mathlib.Core.Option.{Option, none, some}
 use native.Mathlib.Omega.{arith}
 use lib.Dec.{leb, eqb}
 use lib.IntN.{ℤ, pos, negsuc}
-use types.Run.{OneOf}
-use denote.Enum.Declared.{tag_of}
 use borrow.Author.Tests.{leb-true, leb-false, le-leb, eqb-true, ne_eqb}
 use Rattle.laws.specs.Signed as signed
 use Rattle.terms.specs.declared.Refusal.{Refusal}
@@ -17,7 +14,6 @@ use Rattle.terms.specs.declared.Refusal.TheVariants.{BadLine}
 use Rattle.texts.specs.Number.{number_of, digits, cap}
 use Rattle.shapes.specs.declared.Step.{Step}
 use Rattle.shapes.specs.declared.Step.TheVariants.{On, Other, Refused}
-use Rattle.shapes.specs.contracts.Step as T
 use Rattle.shapes.specs.Split.{Got, fine, wrong, split, first, rest, joined, numbers, shaped, lined, read_line, less, more, cost_of}
 use Rattle.shapes.specs.Rows.{less_code, more_code, code_of, step_got}
 use Rattle.records.specs.Lines.{Pieces, all, within, cost_fine}
@@ -88,10 +84,10 @@ module _ {A B : Type 0} (f : A → B) where
   refused (wrong why line) reason at e = cc
 
   -- a line that is not read is misshapen
-  pub shut : (at : ℕ) (o : Option (List A)) (ps : Pieces) (r : Step) (row : List B) (s : List ℕ) → map_g f (lined at o ps) ≡ step_got at r row s → OneOf (1 ∷ 2 ∷ []) (tag_of T.the_type r) → lined at o ps ≡ wrong BadLine at
+  pub shut : (at : ℕ) (o : Option (List A)) (ps : Pieces) (r : Step) (row : List B) (s : List ℕ) → map_g f (lined at o ps) ≡ step_got at r row s → ((next : ℕ) → r ≡ On next → ⊥) → lined at o ps ≡ wrong BadLine at
   shut at o [] r row s e h = refl
   shut at none (p ∷ ps) r row s e h = refl
-  shut at (some v) (p ∷ ps) (On next) row s e h = absurd (⊎_elim (λ e. omega arith) (λ e. omega arith) h)
+  shut at (some v) (p ∷ ps) (On next) row s e h = absurd (h next refl)
   shut at (some v) (p ∷ ps) Other row s e h = clash _ _ _ e
   shut at (some v) (p ∷ ps) (Refused reason line) row s e h = clash _ _ _ e
 

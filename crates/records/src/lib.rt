@@ -1,4 +1,6 @@
 // The lines of a sheet: the shape of a whole line first, then what its numbers may be. A line that is accepted is stored.
+#![tactic(auto)]
+
 ghost use Rattle.std.specs.Prelude.{◌≡◌, true, map, ◌+◌, ◌*◌, ◌≤◌, length, take, drop};
 ghost use Rattle.terms.specs.Limits.{KindsFine, most_kinds, most_swaps};
 ghost use Rattle.terms.specs.Flat.{left_at, right_at};

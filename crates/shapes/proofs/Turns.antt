@@ -8,9 +8,6 @@ use mathlib.Core.Option.{Option, none, some}
 use native.Mathlib.Omega.{arith}
 use native.Mathlib.Numerals.{add-one}
 use lib.Dec.{eqb}
-use types.Run.{OneOf}
-use denote.Enum.Declared.{tag_of}
-use Rattle.lines.specs.contracts.Field as T
 use lib.ListN.{length, take, drop, set}
 use lib.Seq.{drop-drop, take-suc-set, take_all}
 use borrow.Author.Tests.{eqb-true}
@@ -276,21 +273,21 @@ module _ (at : ℕ) (sg : Bool) (s : List ℕ) (place : ℕ) where
   pub no_end : is_feed (field_at s place) ≡ false → row_got at sg 0 (drop place s) ≡ wrong BadLine at
   no_end f = no_end_at (drop place s) f
 
--- ## By the tags that an arm of a match knows
+-- ## What the last arm of a match knows
 
-pub tag_amount : (sg : Bool) (f : Field) → OneOf (0 ∷ 3 ∷ 4 ∷ []) (tag_of T.the_type f) → num.Bad ≡ amount_of sg f
-tag_amount sg (Word w next) h = refl
-tag_amount sg (Number v next) h = absurd (⊎_elim (λ e. omega arith) (λ g. ⊎_elim (λ e. omega arith) (λ e. omega arith) g) h)
-tag_amount sg (Minus v next) h = absurd (⊎_elim (λ e. omega arith) (λ g. ⊎_elim (λ e. omega arith) (λ e. omega arith) g) h)
-tag_amount sg (Feed next) h = refl
-tag_amount sg Bad h = refl
+pub other_amount : (sg : Bool) (f : Field) → ((v next : ℕ) → f ≡ Number v next → ⊥) → ((v next : ℕ) → f ≡ Minus v next → ⊥) → num.Bad ≡ amount_of sg f
+other_amount sg (Word w next) n m = refl
+other_amount sg (Number v next) n m = absurd (n v next refl)
+other_amount sg (Minus v next) n m = absurd (m v next refl)
+other_amount sg (Feed next) n m = refl
+other_amount sg Bad n m = refl
 
-pub tag_feed : (f : Field) → OneOf (0 ∷ 1 ∷ 2 ∷ 4 ∷ []) (tag_of T.the_type f) → is_feed f ≡ false
-tag_feed (Word w next) h = refl
-tag_feed (Number v next) h = refl
-tag_feed (Minus v next) h = refl
-tag_feed (Feed next) h = absurd (⊎_elim (λ e. omega arith) (λ g. ⊎_elim (λ e. omega arith) (λ i. ⊎_elim (λ e. omega arith) (λ e. omega arith) i) g) h)
-tag_feed Bad h = refl
+pub other_feed : (f : Field) → ((next : ℕ) → f ≡ Feed next → ⊥) → is_feed f ≡ false
+other_feed (Word w next) n = refl
+other_feed (Number v next) n = refl
+other_feed (Minus v next) n = refl
+other_feed (Feed next) n = absurd (n next refl)
+other_feed Bad n = refl
 
 -- ## The loop: i of K numbers stand in the row, and the text at the place says the others
 

@@ -1,15 +1,10 @@
 -- The word that begins a line. Assumes nothing.
 use Prim.Native.Nat.{ℕ, ◌+◌, min}
 use mathlib.Core.Path.{◌≡◌, refl, ap, sym, ◌∙◌}
-use mathlib.Core.Logic.{⊎_elim}
 use mathlib.Core.List.{List, [], ◌∷◌}
 use mathlib.Core.Bool.{Bool, true, false, cond, not, ◌&&◌}
 use mathlib.Core.Option.{Option, none, some}
-use native.Mathlib.Omega.{arith}
 use lib.Dec.{eqb}
-use types.Run.{OneOf}
-use denote.Enum.Declared.{tag_of}
-use Rattle.lines.specs.contracts.Field as T
 use lib.ListN.{length, drop}
 use lib.Seq.{drop-drop}
 use borrow.Author.Tests.{eq-eqb, ne_eqb}
@@ -133,11 +128,11 @@ module _ (line : ℕ) (sg : Bool) (w k : ℕ) where
     pub word_differs : (v place : ℕ) → f ≡ Word v place → (v ≡ w → ⊥) → (true ≡ not (begun_in w (drop at s))) × (read_line line (shaped w (code_of sg) k) (split 10 (drop at s)) ≡ wrong BadLine line)
     word_differs v place g n = word_miss (ap (word_is w) g ∙ ne_eqb v w n)
 
-    pub word_none : OneOf (1 ∷ 2 ∷ 3 ∷ 4 ∷ []) (tag_of T.the_type f) → (true ≡ not (begun_in w (drop at s))) × (read_line line (shaped w (code_of sg) k) (split 10 (drop at s)) ≡ wrong BadLine line)
+    pub word_none : ((v place : ℕ) → f ≡ Word v place → ⊥) → (true ≡ not (begun_in w (drop at s))) × (read_line line (shaped w (code_of sg) k) (split 10 (drop at s)) ≡ wrong BadLine line)
     word_none h = word_miss (go f h)
       where
-        go : (f : Field) → OneOf (1 ∷ 2 ∷ 3 ∷ 4 ∷ []) (tag_of T.the_type f) → word_is w f ≡ false
-        go (Word v next) h = absurd (⊎_elim (λ e. omega arith) (λ g. ⊎_elim (λ e. omega arith) (λ i. ⊎_elim (λ e. omega arith) (λ e. omega arith) i) g) h)
+        go : (f : Field) → ((v place : ℕ) → f ≡ Word v place → ⊥) → word_is w f ≡ false
+        go (Word v next) h = absurd (h v next refl)
         go (Number v next) h = refl
         go (Minus v next) h = refl
         go (Feed next) h = refl

@@ -1,4 +1,6 @@
 // The shape of a whole line of a sheet: its word, as many numbers as are due, the line feed.
+#![tactic(auto)]
+
 ghost use Rattle.std.specs.Prelude.{◌≡◌, false, not, length, drop};
 ghost use Rattle.shapes.specs.Split.{split, shaped, read_line};
 ghost use Rattle.shapes.specs.Rows.{Capped, amount_of, code_of, row_got, step_got, is_other, begun_in};

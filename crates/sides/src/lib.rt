@@ -1,4 +1,6 @@
 // The sides of a sheet's swaps: whether they are one load, and whether they have one grade.
+#![tactic(auto)]
+
 ghost use Rattle.std.specs.Prelude.{◌≡◌, ◌≤◌, ◌*◌, ◌+◌, length};
 ghost use Rattle.terms.specs.Decides.{Decides};
 ghost use Rattle.terms.specs.Limits.{KindsFine};

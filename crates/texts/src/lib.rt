@@ -1,4 +1,6 @@
 // Numbers in text: decimal, of any length, with no leading zero. A number above every limit is held at CAP.
+#![tactic(auto)]
+
 ghost use Rattle.std.specs.Prelude.{◌≡◌, true, ◌≤◌, drop};
 ghost use Rattle.texts.specs.Number.{cap, is_digit, ends_field, more, run_from, number_at};
 

@@ -1,0 +1,18 @@
+use Rattle.terms.specs.Flat.{left_at, right_at}
+use Rattle.records.proofs.Answers as answers
+use Rattle.records.proofs.judged.Goals as goal
+
+pub returns-then-not-unequal : goal.returns-then-not-unequal
+returns-then-not-unequal c =
+    let a = c.args in
+    answers.sides_same a.line a.next a.sizes.now (left_at a.n a.swaps.now a.used) (right_at a.n a.swaps.now a.used) c.unequal.result c.unequal.ensures c.if-not-unequal.true
+
+pub returns-then-not-even : goal.returns-then-not-even
+returns-then-not-even c =
+    let a = c.args in
+    answers.sides_unequal a.line a.next a.sizes.now (left_at a.n a.swaps.now a.used) (right_at a.n a.swaps.now a.used) c.unequal.result c.unequal.ensures c.if-not-unequal.false c.even.result c.even.ensures c.if-not-even.true
+
+pub returns : goal.returns
+returns c =
+    let a = c.args in
+    answers.sides_fine a.line a.next a.sizes.now (left_at a.n a.swaps.now a.used) (right_at a.n a.swaps.now a.used) c.unequal.result c.unequal.ensures c.if-not-unequal.false c.even.result c.even.ensures c.if-not-even.false
