@@ -147,7 +147,7 @@ pub extern "C" fn kitsettle_read(
     load_count: &mut usize,
     line: &mut usize,
 ) -> u32
-    ensures { ReadIs text.now sizes.old costs.old swaps.old loads.old result sizes.new costs.new swaps.new loads.new (record { kinds = kinds.exit.now; bound = bound.new; swaps = swap_count.new; loads = load_count.new }) line.new }
+    ensures { ReadIs text.now sizes.old costs.old swaps.old loads.old result sizes.new costs.new swaps.new loads.new (record { kinds = kinds.new; bound = bound.new; swaps = swap_count.new; loads = load_count.new }) line.new }
 {
     let a = sheet::read_sheet(text, sizes, costs, swaps, loads);
     let c = read_counts(a);

@@ -1,4 +1,6 @@
 // One row applied many times at once, where single steps by the first row that fits would do the same.
+#![tactic(auto)]
+
 ghost use Rattle.std.specs.Prelude.{◌≡◌, ℕ, ◌+◌, ◌*◌, ◌-◌, ◌≤◌, ◌<◌, length};
 ghost use Rattle.terms.specs.Load.{Fits};
 ghost use Rattle.terms.specs.Limits.{most_kinds};

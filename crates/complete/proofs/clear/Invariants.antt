@@ -1,0 +1,14 @@
+use Prim.Native.Nat.{◌≤◌, ◌-◌}
+use mathlib.Core.Path.{◌≡◌, refl, ap, ◌∙◌}
+use mathlib.Core.List.{◌++◌, append-nil}
+use native.Mathlib.Omega.{arith}
+use lib.ListN.{length, set, drop, length-set, drop_of_length-le}
+use borrow.Author.Fill.{fill_none, fill_more}
+use Rattle.terms.specs.Load.{zeros}
+use Rattle.complete.proofs.clear.Given as goal
+
+abbrev pub invariant-loop-k : goal.invariant-loop-k
+invariant-loop-k l = (l.k ≤ length l.initial.table) × (l.table ≡ zeros l.k ++ drop l.k l.initial.table) × (length l.table ≡ length l.initial.table)
+
+abbrev pub decreases-loop-k : goal.decreases-loop-k
+decreases-loop-k l = length l.initial.table - l.k

@@ -1,0 +1,13 @@
+use Prim.Native.Nat.{◌-◌}
+use mathlib.Core.Path.{refl}
+use mathlib.Core.Logic.{⊎_elim}
+use native.Mathlib.Omega.{arith}
+use borrow.Author.Rules.{rules}
+use Rattle.grades.proofs.Listed.{PairsGoing, pairs_start, pairs_turn, pairs_skip, pairs_full, pairs_end, pairs_as, pairs_asked}
+use Rattle.grades.proofs.join_pairs.Given as goal
+
+abbrev pub invariant-loop-k : goal.invariant-loop-k
+invariant-loop-k l = PairsGoing l.weights l.due l.mates l.pairs l.g l.initial.table l.rows l.room l.table l.now l.k
+
+abbrev pub decreases-loop-k : goal.decreases-loop-k
+decreases-loop-k l = l.pairs - l.k

@@ -1,0 +1,16 @@
+use Prim.Native.Nat.{◌-◌, ◌≤◌}
+use mathlib.Core.Path.{◌≡◌, refl, sym, ◌∙◌}
+use native.Mathlib.Omega.{arith}
+use borrow.Author.Rules.{rules}
+use lib.ListN.{length, length-set}
+use Rattle.terms.specs.Swaps.{exchange}
+use Rattle.laws.specs.Load.{join}
+use Rattle.laws.specs.Fill.{half, half_all, half_more}
+use Rattle.grades.proofs.Counts.{made_long, made_sub, made_at, made_small}
+use Rattle.grades.proofs.make.Given as goal
+
+abbrev pub invariant-loop-k : goal.invariant-loop-k
+invariant-loop-k l = (l.k ≤ 12) × (l.out ≡ half (exchange l.h l.t (join l.h l.q)) l.initial.out l.k) × (length l.out ≡ 12)
+
+abbrev pub decreases-loop-k : goal.decreases-loop-k
+decreases-loop-k l = 12 - l.k

@@ -1,0 +1,10 @@
+use Prim.Native.Nat.{◌-◌}
+use borrow.Author.Rules.{rules}
+use Rattle.grades.proofs.Ends.{TailsGoing, tails_none, tails_asked, tails_turn, tails_end}
+use Rattle.grades.proofs.settle_tails.Given as goal
+
+abbrev pub invariant-loop-r : goal.invariant-loop-r
+invariant-loop-r l = TailsGoing l.weights l.initial.table l.base l.rows l.table l.r
+
+abbrev pub decreases-loop-r : goal.decreases-loop-r
+decreases-loop-r l = l.rows - l.r

@@ -1,0 +1,46 @@
+use Prim.Native.Nat.{◌≤◌, ◌-◌, ◌+◌}
+use mathlib.Core.Path.{◌≡◌, refl, sym, ap, ◌∙◌}
+use native.Mathlib.Omega.{arith}
+use lib.ListN.{length}
+use Rattle.terms.specs.Limits.{most_kinds}
+use Rattle.laws.specs.Fill.{half, half_all, half_long, half_more}
+use Rattle.padding.specs.Widen.{widen_sizes}
+use Rattle.padding.specs.Kinds.{sizes_long}
+use Rattle.padding.proofs.widen_sizes.Goals as goal
+
+pub loop-k-init : goal.loop-k-init
+loop-k-init c = (omega arith, refl, c.requires.2)
+
+pub size_at-requires : goal.size_at-requires
+size_at-requires c = (c.requires.0, omega arith)
+
+pub offset_bounds-out-k : goal.offset_bounds-out-k
+offset_bounds-out-k c = omega arith
+
+pub bounds-out-k : goal.bounds-out-k
+bounds-out-k c = omega arith
+
+pub overflow_add-k : goal.overflow_add-k
+overflow_add-k c = omega arith
+
+pub loop-k-smaller : goal.loop-k-smaller
+loop-k-smaller c = omega arith
+
+pub loop-k-preserved : goal.loop-k-preserved
+loop-k-preserved c =
+    let a = c.args in
+    let pre = c.requires in
+    let l = c.loop-k in
+    let long = sizes_long a.n a.sizes.now pre.0 pre.1 ∙ sym pre.2 in
+    let more = half_more (widen_sizes a.n a.sizes.now) a.out.now l.out l.k c.size_at.result long (omega (arith, pre.2)) l.invariant.1 c.size_at.ensures in
+    (omega arith, more, ap length more ∙ half_long (widen_sizes a.n a.sizes.now) a.out.now (l.k + 1) long (omega (arith, pre.2)) ∙ pre.2)
+
+pub shape_of-out : goal.shape_of-out
+shape_of-out c = c.loop-k.invariant.2 ∙ sym c.requires.2
+
+pub returns : goal.returns
+returns c =
+    let a = c.args in
+    let pre = c.requires in
+    let l = c.loop-k in
+    l.invariant.1 ∙ half_all (widen_sizes a.n a.sizes.now) a.out.now l.k (omega (arith, sizes_long a.n a.sizes.now pre.0 pre.1)) (omega (arith, pre.2))

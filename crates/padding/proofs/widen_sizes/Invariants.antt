@@ -1,0 +1,15 @@
+use Prim.Native.Nat.{◌≤◌, ◌-◌, ◌+◌}
+use mathlib.Core.Path.{◌≡◌, refl, sym, ap, ◌∙◌}
+use native.Mathlib.Omega.{arith}
+use lib.ListN.{length}
+use Rattle.terms.specs.Limits.{most_kinds}
+use Rattle.laws.specs.Fill.{half, half_all, half_long, half_more}
+use Rattle.padding.specs.Widen.{widen_sizes}
+use Rattle.padding.specs.Kinds.{sizes_long}
+use Rattle.padding.proofs.widen_sizes.Given as goal
+
+abbrev pub invariant-loop-k : goal.invariant-loop-k
+invariant-loop-k l = (l.k ≤ most_kinds) × (l.out ≡ half (widen_sizes l.n l.sizes) l.initial.out l.k) × (length l.out ≡ most_kinds)
+
+abbrev pub decreases-loop-k : goal.decreases-loop-k
+decreases-loop-k l = most_kinds - l.k
