@@ -1,23 +1,23 @@
 // The lines of document 01's table that complete reaches, each with the whole rule table at exit. Every number lent is 7.
 use complete::Completed;
-use libc::STDOUT_FILENO;
+use tell::STDOUT;
 use terms::Kit;
 
 fn show(label: &[u8], answer: Completed, rules: &[u16]) {
-    io::write_all(STDOUT_FILENO, label);
+    io::write_all(STDOUT, label);
     match answer {
         Completed::Rows(rows) => {
-            io::write_all(STDOUT_FILENO, b" rows ");
+            io::write_all(STDOUT, b" rows ");
             tell::write_number((rows % 100) as u8);
         }
         Completed::Refused(why, place) => {
-            io::write_all(STDOUT_FILENO, b" refused ");
+            io::write_all(STDOUT, b" refused ");
             tell::write_number((numbers::number(why) % 100) as u8);
-            io::write_all(STDOUT_FILENO, b" at ");
+            io::write_all(STDOUT, b" at ");
             tell::write_number((place % 100) as u8);
         }
     }
-    io::write_all(STDOUT_FILENO, b":");
+    io::write_all(STDOUT, b":");
     tell::write_counts(rules);
 }
 

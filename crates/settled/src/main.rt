@@ -1,19 +1,19 @@
 // The lines of document 01's table that settle and earlier-of-two reach.
-use libc::STDOUT_FILENO;
 use settle::Settled;
+use tell::STDOUT;
 use terms::Kit;
 
 // The answer and the load, as in the table.
 fn show(label: &[u8], answer: Settled, load: &[u16]) {
-    io::write_all(STDOUT_FILENO, label);
+    io::write_all(STDOUT, label);
     match answer {
         Settled::Done => {
-            io::write_all(STDOUT_FILENO, b" done");
+            io::write_all(STDOUT, b" done");
         }
         Settled::Refused(why, _) => {
-            io::write_all(STDOUT_FILENO, b" refused ");
+            io::write_all(STDOUT, b" refused ");
             tell::write_number((numbers::number(why) % 100) as u8);
-            io::write_all(STDOUT_FILENO, b":");
+            io::write_all(STDOUT, b":");
         }
     }
     tell::write_counts(load);
@@ -55,17 +55,17 @@ fn kit_n(label: &[u8], bound: usize, cost: i32, rules: &[u16], a: u16, b: u16) {
 
 // Which of two loads comes first; only y may have no part of kind 1.
 fn write_earlier<'a>(label: &[u8], costs: &[i32], x: &'a [u16], y: &'a [u16]) {
-    io::write_all(STDOUT_FILENO, label);
+    io::write_all(STDOUT, label);
     let first = compare::earlier(12, costs, x, y);
     if first.len() == 0 {
-        io::write_all(STDOUT_FILENO, b" empty\n");
+        io::write_all(STDOUT, b" empty\n");
         return;
     }
     if first[0] == 0 {
-        io::write_all(STDOUT_FILENO, b" second\n");
+        io::write_all(STDOUT, b" second\n");
         return;
     }
-    io::write_all(STDOUT_FILENO, b" first\n");
+    io::write_all(STDOUT, b" first\n");
 }
 
 // Twelve kinds of 65,535 parts against nine, all at one cost: a sum of 32 bits would turn the order about.
