@@ -1,4 +1,6 @@
 // What the program writes for a sheet: the rule lines of the finished table, then a line for each load, or the refusal.
+#![tactic(auto)]
+
 ghost use Rattle.std.specs.Prelude.{◌+◌, ◌*◌, ◌≤◌, length};
 ghost use Rattle.terms.specs.Limits.{most_loads, most_text};
 ghost use Rattle.io.specs.Counts.{IsPrefixLen as CountsOf};

@@ -1,1 +1,3 @@
+#![tactic(auto)]
+
 // The theory is about the definitions of `terms`: the kit of lists of n counts, and the theorems in the words of 01. Specs only.

@@ -1,4 +1,6 @@
 // The lines of document 01's table that complete reaches, each with the whole rule table at exit. Every number lent is 7.
+#![tactic(auto)]
+
 use complete::Completed;
 use tell::STDOUT;
 use terms::Kit;

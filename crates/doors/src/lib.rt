@@ -1,5 +1,7 @@
 // The calls of the library for programs in other languages: plain numbers and slices (a pointer, then how many elements).
 // No call has a `requires`; include/kitsettle.h says the same in C.
+#![tactic(auto)]
+
 ghost use Rattle.std.specs.Prelude.{◌≡◌};
 ghost use Rattle.doors.specs.Answers.{EarlierIs, CompleteIs, SettleIs, ReadIs};
 ghost use Rattle.doors.specs.Answers.{complete_number, complete_place, settle_number, settle_place, read_number, read_line, read_counts};

@@ -1,4 +1,6 @@
 // Completion, grade by grade, over a working kit of 12 kinds: the loops whose meaning is the theory's.
+#![tactic(auto)]
+
 ghost use Rattle.std.specs.Prelude.{◌≡◌, ℕ, suc, ◌+◌, ◌*◌, ◌≤◌, ◌<◌, List, length, get_or};
 ghost use Rattle.terms.specs.Load.{grade};
 ghost use Rattle.terms.specs.Swaps.{exchange};

@@ -1,1 +1,3 @@
+#![tactic(auto)]
+
 // What the loops of completion keep, in the theory: specs only.

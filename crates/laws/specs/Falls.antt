@@ -7,7 +7,7 @@ use Rattle.terms.specs.Load.{plus, less, grade}
 use Rattle.terms.specs.Order.{Before}
 use Rattle.terms.specs.Swaps.{◌∈◌, Step}
 use Rattle.terms.specs.Table.{Row}
-use Rattle.terms.specs.Settling.{Proper, FirstFit, FirstFit.hit, FirstFit.miss, Settles, Settles.done, Settles.next}
+use Rattle.terms.specs.Settling.{Proper, FirstFit, FirstFit.hit, FirstFit.miss, Settles, Settles.next}
 use Rattle.laws.specs.Load.{plus_comm, plus_less, grade_plus, fits_length, length_less}
 use Rattle.laws.specs.Exchange.{exchange_long}
 use Rattle.laws.specs.Order.{before_laws}

@@ -1,4 +1,6 @@
 // The refusal numbers of document 01, for whoever writes one.
+#![tactic(auto)]
+
 ghost use Rattle.std.specs.Prelude.{◌≡◌};
 ghost use Rattle.terms.specs.Refusals.{number_of};
 

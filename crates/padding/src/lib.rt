@@ -1,4 +1,6 @@
 // A kit of n kinds as one of 12, with weights in the place of costs; specs/Padded.antt says that its finished table is the same.
+#![tactic(auto)]
+
 ghost use Rattle.std.specs.Prelude.{◌≡◌, map, ◌+◌, ◌*◌, ◌≤◌, ◌<◌, min, length, get_or, take};
 ghost use Rattle.terms.specs.Load.{zeros};
 ghost use Rattle.terms.specs.Limits.{SizeFine, CostFine, most_kinds};

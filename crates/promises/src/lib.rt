@@ -1,1 +1,3 @@
+#![tactic(auto)]
+
 // What the calls promise together, over their contracts: specs only.

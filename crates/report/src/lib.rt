@@ -1,4 +1,6 @@
 // The lines of a rule table, and the lines of loads that are settled by it.
+#![tactic(auto)]
+
 ghost use Rattle.std.specs.Prelude.{◌+◌, ◌*◌, ◌^◌, ◌<◌, ◌≤◌, ◌≡◌, length};
 ghost use Rattle.terms.specs.Limits.{most_kinds};
 ghost use Rattle.terms.specs.Flat.{row_at, table_of};

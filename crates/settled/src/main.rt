@@ -1,4 +1,6 @@
 // The lines of document 01's table that settle and earlier-of-two reach.
+#![tactic(auto)]
+
 use settle::Settled;
 use tell::STDOUT;
 use terms::Kit;

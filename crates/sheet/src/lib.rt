@@ -1,4 +1,6 @@
 // A sheet read from its text into lent buffers: one pass over the text, line by line, and one over each buffer at the end.
+#![tactic(auto)]
+
 ghost use Rattle.std.specs.Prelude.{◌≡◌, [], ◌++◌, ◌+◌, ◌-◌, ◌*◌, ◌≤◌, pos, length, take, drop, replicate};
 ghost use Rattle.terms.specs.Limits.{KindsFine, most_kinds, most_swaps, most_loads};
 ghost use Rattle.shapes.specs.Split.{split};

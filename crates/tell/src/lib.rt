@@ -1,3 +1,5 @@
+#![tactic(auto)]
+
 // Numbers and loads written by the programs that the gate runs.
 // The standard output.
 pub const STDOUT: i32 = 1;

@@ -1,4 +1,6 @@
 // What every call shares: the limits of a kit, and the reasons for which a call refuses.
+#![tactic(auto)]
+
 ghost use Rattle.std.specs.Prelude.{◌≡◌};
 
 // A kit: how many kinds of part it has, and the bound on a load's grade.

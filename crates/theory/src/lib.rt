@@ -1,1 +1,3 @@
+#![tactic(auto)]
+
 // The theory of finished tables over an abstract kit of loads: specs only.

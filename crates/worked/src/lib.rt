@@ -1,1 +1,3 @@
+#![tactic(auto)]
+
 // The loads that document 01 works by hand; all of it is in specs/.

@@ -1,1 +1,3 @@
+#![tactic(auto)]
+
 // A sheet that is written reads back as what it was written from: specs only.

@@ -2,7 +2,6 @@ use native.Mathlib.Omega.{arith}
 use Rattle.answers.proofs.Writing.{answer_sheet, answer_refused, written_counts}
 use Rattle.sheet.specs.Sheet.{Result}
 use Rattle.answers.proofs.Passed.{reading_counted}
-use borrow.Author.Rules.{rules}
 use Rattle.answers.proofs.answer.Goals as goal
 
 pub sheet_lines-requires : goal.sheet_lines-requires

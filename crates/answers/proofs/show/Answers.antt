@@ -2,7 +2,6 @@ use native.Mathlib.Omega.{arith}
 use Rattle.print.proofs.Storing.{stored_length}
 use Rattle.answers.proofs.Writing.{shown_rows, shown_refused}
 use Rattle.answers.proofs.Passed.{completing_ready}
-use borrow.Author.Rules.{rules}
 use Rattle.answers.proofs.show.Goals as goal
 
 pub rule_lines-at-requires : goal.rule_lines-at-requires

@@ -1,8 +1,7 @@
-use Prim.Native.Nat.{◌≤◌, ◌-◌}
 use mathlib.Core.Path.{◌≡◌, refl, ap, ◌∙◌}
 use mathlib.Core.List.{◌++◌, append-nil}
 use native.Mathlib.Omega.{arith}
-use lib.ListN.{length, set, drop, length-set, drop_of_length-le}
+use lib.ListN.{length, set, length-set, drop_of_length-le}
 use borrow.Author.Fill.{fill_none, fill_more}
 use Rattle.terms.specs.Load.{zeros}
 use Rattle.complete.proofs.clear.Goals as goal

@@ -7,11 +7,9 @@ use Rattle.complete.specs.declared.Completed.{Completed}
 use Rattle.complete.specs.declared.Completed.TheVariants.{Rows}
 use Rattle.complete.specs.Call.{input_tests, room_test, Accepted}
 use Rattle.complete.specs.Passed.{refused_not_rows, all_passed, fit_of, table_of_lem}
-use borrow.Author.Rules.{rules}
 use Rattle.complete.proofs.complete.Goals as goal
 
 abbrev IsNone : Completed × List ℕ → Type 0
-
 IsNone o = o.0 ≡ Rows 0
 
 pub returns-in_default : goal.returns-in_default

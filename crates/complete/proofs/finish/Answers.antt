@@ -11,7 +11,6 @@ use Rattle.laws.specs.Flat.{rows_in}
 use Rattle.padding.specs.Widen.{resize_row}
 use Rattle.complete.specs.declared.Completed.TheVariants.{Refused}
 use Rattle.complete.specs.Grown.{none_fits, all_fit}
-use borrow.Author.Rules.{rules}
 use Rattle.complete.proofs.finish.Goals as goal
 
 pub returns-then-room-rows : goal.returns-then-room-rows

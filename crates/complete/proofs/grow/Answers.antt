@@ -1,6 +1,5 @@
 use native.Mathlib.Omega.{arith}
 use Rattle.complete.specs.Grown.{working, grown}
-use borrow.Author.Rules.{rules}
 use Rattle.complete.proofs.grow.Goals as goal
 
 pub all_grades-requires : goal.all_grades-requires

@@ -1,6 +1,4 @@
-use borrow.Author.Tests.{not-true, not-false}
 use Rattle.laws.specs.Decides.{decides_no, decides_same}
-use borrow.Author.Rules.{rules}
 use Rattle.complete.proofs.lengths_fine.Goals as goal
 
 pub returns-then-sizes-n : goal.returns-then-sizes-n

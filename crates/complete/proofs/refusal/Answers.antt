@@ -3,7 +3,6 @@ use mathlib.Core.Path.{◌≡◌, refl}
 use mathlib.Core.Logic.{inl, inr}
 use mathlib.Core.List.{List}
 use native.Mathlib.Omega.{arith}
-use borrow.Author.Tests.{not-true, not-false}
 use lib.ListN.{length}
 use Rattle.terms.specs.Limits.{KindsFine, BoundFine}
 use Rattle.terms.specs.Flat.{rows_lent}
@@ -14,11 +13,9 @@ use Rattle.complete.specs.declared.Completed.{Completed}
 use Rattle.complete.specs.declared.Completed.TheVariants.{Rows}
 use Rattle.complete.specs.Call.{Lengths, swap_tests, input_tests}
 use Rattle.complete.specs.Passed.{rows_lie}
-use borrow.Author.Rules.{rules}
 use Rattle.complete.proofs.refusal.Goals as goal
 
 abbrev IsNone : Completed × List ℕ → Type 0
-
 IsNone o = o.0 ≡ Rows 0
 
 pub returns-then-not-in_range : goal.returns-then-not-in_range

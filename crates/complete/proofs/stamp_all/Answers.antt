@@ -1,5 +1,4 @@
-use Prim.Native.Nat.{◌≤◌, ◌-◌}
-use mathlib.Core.Path.{◌≡◌, refl, ap, ◌∙◌}
+use mathlib.Core.Path.{refl, ap, ◌∙◌}
 use native.Mathlib.Omega.{arith}
 use lib.ListN.{length, length-set}
 use lib.Seq.{get_or-set_same, get_or-set_other}
@@ -7,7 +6,6 @@ use borrow.Author.Count.{below_more}
 use Rattle.terms.specs.Load.{grade}
 use Rattle.laws.specs.Flat.{row_in}
 use Rattle.growth.specs.State.{stamp}
-use Rattle.complete.specs.Grown.{Stamped}
 use Rattle.complete.proofs.stamp_all.Goals as goal
 
 pub loop-k-init : goal.loop-k-init

@@ -1,12 +1,6 @@
 use Prim.Native.Nat.{◌≤◌, ◌-◌}
-use mathlib.Core.Path.{◌≡◌, refl, ap, ◌∙◌}
-use native.Mathlib.Omega.{arith}
-use lib.ListN.{length, length-set}
-use lib.Seq.{get_or-set_same, get_or-set_other}
-use borrow.Author.Count.{below_more}
-use Rattle.terms.specs.Load.{grade}
-use Rattle.laws.specs.Flat.{row_in}
-use Rattle.growth.specs.State.{stamp}
+use mathlib.Core.Path.{◌≡◌}
+use lib.ListN.{length}
 use Rattle.complete.specs.Grown.{Stamped}
 use Rattle.complete.proofs.stamp_all.Given as goal
 

@@ -2,7 +2,6 @@ use mathlib.Core.Path.{◌∙◌}
 use native.Mathlib.Omega.{arith}
 use Rattle.terms.specs.Load.{grade}
 use Rattle.complete.specs.Grown.{stamp_over, stamp_within}
-use borrow.Author.Rules.{rules}
 use Rattle.complete.proofs.stamp_of.Goals as goal
 
 pub returns-then-bound-grade : goal.returns-then-bound-grade

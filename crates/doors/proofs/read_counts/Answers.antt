@@ -1,8 +1,5 @@
 use mathlib.Core.Path.{sym, ap}
 use Rattle.doors.specs.Answers.{read_counts}
-use borrow.Author.Rules.{rules}
-use Rattle.doors.proofs.read_counts.Reads as reads
-use Rattle.doors.proofs.read_counts.Lts as lts
 use Rattle.doors.proofs.read_counts.Goals as goal
 
 -- src/lib.rt:126:21

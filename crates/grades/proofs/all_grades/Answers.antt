@@ -1,9 +1,8 @@
-use Prim.Native.Nat.{◌+◌, ◌-◌, ◌≤◌}
+use Prim.Native.Nat.{◌≤◌}
 use mathlib.Core.Path.{refl, sym, ◌∙◌}
 use native.Mathlib.Omega.{arith}
-use borrow.Author.Rules.{rules}
 use Rattle.grades.proofs.Graded.{few_pairs}
-use Rattle.grades.proofs.Whole.{Grading, grading_start, grading_full, grading_next, grading_end}
+use Rattle.grades.proofs.Whole.{grading_start, grading_full, grading_next, grading_end}
 use Rattle.grades.proofs.all_grades.Goals as goal
 
 pub overflow_add-bound : goal.overflow_add-bound

@@ -1,9 +1,5 @@
-use Prim.Native.Nat.{◌+◌, ◌-◌, ◌≤◌}
-use mathlib.Core.Path.{refl, sym, ◌∙◌}
-use native.Mathlib.Omega.{arith}
-use borrow.Author.Rules.{rules}
-use Rattle.grades.proofs.Graded.{few_pairs}
-use Rattle.grades.proofs.Whole.{Grading, grading_start, grading_full, grading_next, grading_end}
+use Prim.Native.Nat.{◌+◌, ◌-◌}
+use Rattle.grades.proofs.Whole.{Grading}
 use Rattle.grades.proofs.all_grades.Given as goal
 
 abbrev pub invariant-loop-g : goal.invariant-loop-g

@@ -1,9 +1,6 @@
-use Prim.Native.Nat.{◌-◌}
 use mathlib.Core.Path.{refl}
-use mathlib.Core.Logic.{⊎_elim}
 use native.Mathlib.Omega.{arith}
-use borrow.Author.Rules.{rules}
-use Rattle.grades.proofs.Listed.{PairsGoing, pairs_start, pairs_turn, pairs_skip, pairs_full, pairs_end, pairs_as, pairs_asked}
+use Rattle.grades.proofs.Listed.{pairs_start, pairs_turn, pairs_skip, pairs_full, pairs_end, pairs_as, pairs_asked}
 use Rattle.grades.proofs.join_pairs.Goals as goal
 use Rattle.grades.proofs.join_pairs.Goals.{then-due-k+else-room-now, else-due-k}
 
@@ -25,8 +22,8 @@ returns-then-room-now c = pairs_full c.loop-k.invariant c.loop-k-test.true c.if-
 pub loop-k-preserved : goal.loop-k-preserved
 loop-k-preserved c =
     elim c.if-due-k.branch [
-      then-due-k+else-room-now w ↦ pairs_as w.table-is w.now-is (pairs_turn c.loop-k.invariant c.loop-k-test.true w.if-due-k.true refl refl w.join_pair-now.ensures w.if-room-now.false) |
-      else-due-k w ↦ pairs_as w.table-is w.now-is (pairs_skip c.loop-k.invariant c.loop-k-test.true w.if-due-k.false)
+      | then-due-k+else-room-now w ↦ pairs_as w.table-is w.now-is (pairs_turn c.loop-k.invariant c.loop-k-test.true w.if-due-k.true refl refl w.join_pair-now.ensures w.if-room-now.false)
+      | else-due-k w ↦ pairs_as w.table-is w.now-is (pairs_skip c.loop-k.invariant c.loop-k-test.true w.if-due-k.false)
     ]
 
 pub returns : goal.returns

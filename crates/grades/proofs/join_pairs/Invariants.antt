@@ -1,9 +1,5 @@
 use Prim.Native.Nat.{◌-◌}
-use mathlib.Core.Path.{refl}
-use mathlib.Core.Logic.{⊎_elim}
-use native.Mathlib.Omega.{arith}
-use borrow.Author.Rules.{rules}
-use Rattle.grades.proofs.Listed.{PairsGoing, pairs_start, pairs_turn, pairs_skip, pairs_full, pairs_end, pairs_as, pairs_asked}
+use Rattle.grades.proofs.Listed.{PairsGoing}
 use Rattle.grades.proofs.join_pairs.Given as goal
 
 abbrev pub invariant-loop-k : goal.invariant-loop-k

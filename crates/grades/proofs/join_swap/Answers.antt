@@ -1,4 +1,3 @@
-use borrow.Author.Rules.{rules}
 use mathlib.Core.Path.{◌∙◌}
 use Rattle.grades.proofs.Joins.{loaded_as, joined_as}
 use Rattle.grades.proofs.join_swap.Goals as goal

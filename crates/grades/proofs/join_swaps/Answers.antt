@@ -1,9 +1,7 @@
-use Prim.Native.Nat.{◌-◌, ◌*◌, ◌≤◌}
+use Prim.Native.Nat.{◌*◌, ◌≤◌}
 use lib.ListN.{length}
-use borrow.Author.Rules.{rules}
 use native.Mathlib.Omega.{arith}
-use Rattle.grades.proofs.Going.{SwapsGoing, swaps_start, swaps_turn, swaps_skip, swaps_full, swaps_end, swaps_as, within_now, left_loaded, right_loaded}
-use mathlib.Core.Logic.{⊎_elim}
+use Rattle.grades.proofs.Going.{swaps_start, swaps_turn, swaps_skip, swaps_full, swaps_end, swaps_as, within_now, left_loaded, right_loaded}
 use Rattle.grades.proofs.join_swaps.Goals as goal
 use Rattle.grades.proofs.join_swaps.Goals.{then-stamps-k+else-room-now, else-stamps-k}
 
@@ -27,8 +25,8 @@ returns-then-room-now c = swaps_full c.loop-k.invariant c.loop-k-test.true c.req
 pub loop-k-preserved : goal.loop-k-preserved
 loop-k-preserved c =
     elim c.if-stamps-k.branch [
-      then-stamps-k+else-room-now w ↦ swaps_as w.table-is w.now-is (swaps_turn c.loop-k.invariant c.loop-k-test.true c.requires.2 w.if-stamps-k.true w.join_swap-now.ensures w.if-room-now.false) |
-      else-stamps-k w ↦ swaps_as w.table-is w.now-is (swaps_skip c.loop-k.invariant c.loop-k-test.true c.requires.2 w.if-stamps-k.false)
+      | then-stamps-k+else-room-now w ↦ swaps_as w.table-is w.now-is (swaps_turn c.loop-k.invariant c.loop-k-test.true c.requires.2 w.if-stamps-k.true w.join_swap-now.ensures w.if-room-now.false)
+      | else-stamps-k w ↦ swaps_as w.table-is w.now-is (swaps_skip c.loop-k.invariant c.loop-k-test.true c.requires.2 w.if-stamps-k.false)
     ]
 
 pub returns : goal.returns

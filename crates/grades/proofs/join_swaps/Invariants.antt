@@ -1,9 +1,5 @@
-use Prim.Native.Nat.{◌-◌, ◌*◌, ◌≤◌}
-use lib.ListN.{length}
-use borrow.Author.Rules.{rules}
-use native.Mathlib.Omega.{arith}
-use Rattle.grades.proofs.Going.{SwapsGoing, swaps_start, swaps_turn, swaps_skip, swaps_full, swaps_end, swaps_as, within_now, left_loaded, right_loaded}
-use mathlib.Core.Logic.{⊎_elim}
+use Prim.Native.Nat.{◌-◌}
+use Rattle.grades.proofs.Going.{SwapsGoing}
 use Rattle.grades.proofs.join_swaps.Given as goal
 
 abbrev pub invariant-loop-k : goal.invariant-loop-k

@@ -1,4 +1,3 @@
-use borrow.Author.Rules.{rules}
 use native.Mathlib.Omega.{arith}
 use Rattle.grades.proofs.Joins.{in_met, in_first, in_second}
 use Rattle.grades.proofs.joined.Goals as goal

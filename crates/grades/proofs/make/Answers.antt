@@ -1,11 +1,9 @@
-use Prim.Native.Nat.{◌-◌, ◌≤◌}
-use mathlib.Core.Path.{◌≡◌, refl, sym, ◌∙◌}
+use mathlib.Core.Path.{refl, sym, ◌∙◌}
 use native.Mathlib.Omega.{arith}
-use borrow.Author.Rules.{rules}
-use lib.ListN.{length, length-set}
+use lib.ListN.{length-set}
 use Rattle.terms.specs.Swaps.{exchange}
 use Rattle.laws.specs.Load.{join}
-use Rattle.laws.specs.Fill.{half, half_all, half_more}
+use Rattle.laws.specs.Fill.{half_all, half_more}
 use Rattle.grades.proofs.Counts.{made_long, made_sub, made_at, made_small}
 use Rattle.grades.proofs.make.Goals as goal
 

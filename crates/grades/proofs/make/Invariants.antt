@@ -1,12 +1,9 @@
 use Prim.Native.Nat.{◌-◌, ◌≤◌}
-use mathlib.Core.Path.{◌≡◌, refl, sym, ◌∙◌}
-use native.Mathlib.Omega.{arith}
-use borrow.Author.Rules.{rules}
-use lib.ListN.{length, length-set}
+use mathlib.Core.Path.{◌≡◌}
+use lib.ListN.{length}
 use Rattle.terms.specs.Swaps.{exchange}
 use Rattle.laws.specs.Load.{join}
-use Rattle.laws.specs.Fill.{half, half_all, half_more}
-use Rattle.grades.proofs.Counts.{made_long, made_sub, made_at, made_small}
+use Rattle.laws.specs.Fill.{half}
 use Rattle.grades.proofs.make.Given as goal
 
 abbrev pub invariant-loop-k : goal.invariant-loop-k

@@ -3,7 +3,6 @@ use mathlib.Core.Path.{◌∙◌}
 use native.Mathlib.Omega.{arith}
 use lib.ListN.{length}
 use Rattle.grades.proofs.Graded.{few_pairs, opened, listing, paired, below_long, enterable, list_still, full_by_swaps, full_by_pairs, grade_left}
-use borrow.Author.Rules.{rules}
 use Rattle.grades.proofs.one_grade.Goals as goal
 
 pub join_swaps-swapped-requires : goal.join_swaps-swapped-requires

@@ -1,6 +1,4 @@
-use Prim.Native.Nat.{◌-◌}
-use borrow.Author.Rules.{rules}
-use Rattle.grades.proofs.Ends.{TailsGoing, tails_none, tails_asked, tails_turn, tails_end}
+use Rattle.grades.proofs.Ends.{tails_none, tails_asked, tails_turn, tails_end}
 use Rattle.grades.proofs.settle_tails.Goals as goal
 
 pub loop-r-init : goal.loop-r-init

@@ -1,6 +1,5 @@
 use Prim.Native.Nat.{◌-◌}
-use borrow.Author.Rules.{rules}
-use Rattle.grades.proofs.Ends.{TailsGoing, tails_none, tails_asked, tails_turn, tails_end}
+use Rattle.grades.proofs.Ends.{TailsGoing}
 use Rattle.grades.proofs.settle_tails.Given as goal
 
 abbrev pub invariant-loop-r : goal.invariant-loop-r

@@ -3,7 +3,6 @@ use mathlib.Core.Path.{◌≡◌, ap₂, ◌∙◌}
 use mathlib.Core.List.{List}
 use lib.ListN.{take}
 use Rattle.laws.specs.Laid.{over}
-use borrow.Author.Rules.{rules}
 use Rattle.padding.proofs.resize_row.Goals as goal
 
 pub returns : goal.returns

@@ -1,11 +1,8 @@
-use Prim.Native.Nat.{ℕ, ◌≤◌, ◌-◌}
-use mathlib.Core.Path.{◌≡◌, refl, ap, ◌∙◌}
-use native.Mathlib.Omega.{arith}
+use Prim.Native.Nat.{◌≤◌, ◌-◌}
+use mathlib.Core.Path.{◌≡◌}
 use lib.ListN.{length}
 use Rattle.terms.specs.Flat.{filled}
-use Rattle.terms.specs.Load.{zeros}
-use Rattle.laws.specs.Flat.{row_in}
-use Rattle.padding.specs.Resize.{resized, resize_more, row_over_long}
+use Rattle.padding.specs.Resize.{resized}
 use Rattle.padding.proofs.resize_rows.Given as goal
 
 abbrev pub invariant-loop-r : goal.invariant-loop-r

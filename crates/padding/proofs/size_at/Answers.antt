@@ -1,7 +1,6 @@
 use mathlib.Core.Path.{sym}
 use native.Mathlib.Omega.{arith}
 use Rattle.padding.specs.Kinds.{size_here, size_past}
-use borrow.Author.Rules.{rules}
 use Rattle.padding.proofs.size_at.Goals as goal
 
 pub returns-then-n-k : goal.returns-then-n-k

@@ -11,7 +11,6 @@ use Rattle.terms.specs.Limits.{SizeFine, CostFine}
 use Rattle.laws.specs.Machine.{small, widened}
 use Rattle.padding.specs.Widen.{weight}
 use Rattle.padding.specs.Weigh.{weight_whole, weight_room}
-use borrow.Author.Rules.{rules}
 use Rattle.padding.proofs.weigh.Goals as goal
 
 -- the sum, as the machine has it

@@ -5,7 +5,6 @@ use native.Mathlib.Omega.{arith}
 use Rattle.terms.specs.Limits.{SizeFine, CostFine}
 use Rattle.padding.specs.Widen.{weight}
 use Rattle.padding.specs.Kinds.{all_at, cost_read, weight_here, weight_past}
-use borrow.Author.Rules.{rules}
 use Rattle.padding.proofs.weight_at.Goals as goal
 
 pub returns-then-n-k : goal.returns-then-n-k

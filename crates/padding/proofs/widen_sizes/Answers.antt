@@ -1,9 +1,8 @@
-use Prim.Native.Nat.{◌≤◌, ◌-◌, ◌+◌}
-use mathlib.Core.Path.{◌≡◌, refl, sym, ap, ◌∙◌}
+use Prim.Native.Nat.{◌+◌}
+use mathlib.Core.Path.{refl, sym, ap, ◌∙◌}
 use native.Mathlib.Omega.{arith}
 use lib.ListN.{length}
-use Rattle.terms.specs.Limits.{most_kinds}
-use Rattle.laws.specs.Fill.{half, half_all, half_long, half_more}
+use Rattle.laws.specs.Fill.{half_all, half_long, half_more}
 use Rattle.padding.specs.Widen.{widen_sizes}
 use Rattle.padding.specs.Kinds.{sizes_long}
 use Rattle.padding.proofs.widen_sizes.Goals as goal

@@ -1,11 +1,9 @@
-use Prim.Native.Nat.{◌≤◌, ◌-◌, ◌+◌}
-use mathlib.Core.Path.{◌≡◌, refl, sym, ap, ◌∙◌}
-use native.Mathlib.Omega.{arith}
+use Prim.Native.Nat.{◌≤◌, ◌-◌}
+use mathlib.Core.Path.{◌≡◌}
 use lib.ListN.{length}
 use Rattle.terms.specs.Limits.{most_kinds}
-use Rattle.laws.specs.Fill.{half, half_all, half_long, half_more}
+use Rattle.laws.specs.Fill.{half}
 use Rattle.padding.specs.Widen.{widen_sizes}
-use Rattle.padding.specs.Kinds.{sizes_long}
 use Rattle.padding.proofs.widen_sizes.Given as goal
 
 abbrev pub invariant-loop-k : goal.invariant-loop-k

@@ -5,7 +5,6 @@ use lib.ListN.{length}
 use Rattle.terms.specs.Limits.{most_kinds}
 use Rattle.terms.specs.Flat.{table_of, filled}
 use Rattle.padding.specs.Resize.{rows_widened, table_sides, table_resized, swaps_widened}
-use borrow.Author.Rules.{rules}
 use Rattle.padding.proofs.widen_swaps.Goals as goal
 
 pub returns : goal.returns

@@ -4,7 +4,6 @@ use mathlib.Core.Logic.{inl, inr}
 use native.Mathlib.Omega.{arith}
 use Rattle.terms.specs.Load.{grade}
 use Rattle.print.specs.Lines.{done_line, refused_line}
-use borrow.Author.Rules.{rules}
 use Rattle.report.proofs.load_line.Goals as goal
 
 pub returns-then-bound-grade_of : goal.returns-then-bound-grade_of

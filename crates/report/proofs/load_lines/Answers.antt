@@ -2,12 +2,12 @@ use Prim.Native.Nat.{◌+◌, ◌*◌, ◌-◌, ◌≤◌}
 use mathlib.Core.Path.{◌≡◌, refl, ◌∙◌}
 use borrow.Rule.Slice.PartMut.{same_len_mid}
 use native.Mathlib.Omega.{arith}
-use lib.ListN.{length, drop}
+use lib.ListN.{length}
 use Rattle.terms.specs.Flat.{table_of}
 use Rattle.print.proofs.Storing.{stored_length}
 use Rattle.report.proofs.Writing.{written_none, written_next, written_of}
 use Rattle.report.proofs.Rows.{item_in, item_part, item_past, item_long}
-use Rattle.report.specs.Report.{LoadLine, load_at, Lines, Written, load_most}
+use Rattle.report.specs.Report.{LoadLine, load_at}
 use Rattle.report.proofs.load_lines.Goals as goal
 
 pub loop-i-init : goal.loop-i-init

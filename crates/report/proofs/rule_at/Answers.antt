@@ -1,6 +1,5 @@
 use native.Mathlib.Omega.{arith}
 use Rattle.report.proofs.Rows.{row_part, row_part_long}
-use borrow.Author.Rules.{rules}
 use Rattle.report.proofs.rule_at.Goals as goal
 
 pub returns : goal.returns

@@ -1,12 +1,10 @@
-use Prim.Native.Nat.{◌+◌, ◌*◌, ◌-◌, ◌≤◌}
 use mathlib.Core.Path.{◌≡◌}
 use native.Mathlib.Omega.{arith}
 use lib.ListN.{length}
 use Rattle.terms.specs.Flat.{row_at, table_of}
 use Rattle.laws.specs.Flat.{row_in}
-use Rattle.print.specs.Lines.{Stored}
 use Rattle.print.proofs.Storing.{stored_none, stored_then, stored_length, each_snoc}
-use Rattle.report.specs.Report.{row_line, rule_lines, row_most}
+use Rattle.report.specs.Report.{row_line}
 use Rattle.laws.specs.Numbered.{numbered_more}
 use Rattle.report.proofs.rule_lines.Goals as goal
 

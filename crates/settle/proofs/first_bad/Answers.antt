@@ -1,12 +1,7 @@
-use Prim.Native.Nat.{ℕ, ◌≤◌, ◌<◌, ◌-◌}
 use native.Mathlib.Omega.{arith}
 use lib.ListN.{length}
 use borrow.Author.Count.{below_more}
-use borrow.Author.Tests.{not-true, not-false}
-use Rattle.terms.specs.Flat.{row_at}
-use Rattle.terms.specs.Settling.{Proper}
 use Rattle.laws.specs.Flat.{row_in}
-use borrow.Author.Rules.{rules}
 use Rattle.settle.proofs.first_bad.Goals as goal
 
 pub loop-r-init : goal.loop-r-init

@@ -1,9 +1,8 @@
 use Prim.Native.Nat.{◌*◌, ◌/◌}
 use native.Mathlib.Omega.{arith}
 use lib.ListN.{length}
-use borrow.Author.Tests.{not-true, not-false, leb-true, leb-false}
+use borrow.Author.Tests.{leb-true, leb-false}
 use Rattle.laws.specs.Decides.{decides_no}
-use borrow.Author.Rules.{rules}
 use Rattle.settle.proofs.lengths_fine.Goals as goal
 
 pub returns-then-sizes-n : goal.returns-then-sizes-n

@@ -3,7 +3,6 @@ use mathlib.Core.Path.{◌≡◌, refl, sym, ◌∙◌}
 use mathlib.Core.Logic.{inl, inr}
 use mathlib.Core.List.{List, [], ◌∷◌, ◌++◌}
 use native.Mathlib.Omega.{arith}
-use borrow.Author.Tests.{not-true, not-false}
 use lib.ListN.{length}
 use Rattle.terms.specs.declared.Refusal.TheVariants.{OverBound}
 use Rattle.terms.specs.Load.{grade}
@@ -14,17 +13,14 @@ use Rattle.laws.specs.Flat.{rows_in}
 use Rattle.settle.specs.declared.Settled.{Settled}
 use Rattle.settle.specs.declared.Settled.TheVariants.{Done, Refused}
 use Rattle.settle.specs.Call.{Lengths, row_test, tests}
-use borrow.Author.Rules.{rules}
 use Rattle.settle.proofs.refusal.Goals as goal
 
 -- the last test
 
 abbrev over_bound : ℕ → List ℕ → List ℕ → List (Test (Settled × List ℕ))
-
 over_bound bound sizes load = must (grade sizes load ≤ bound) (Refused OverBound 0, load) ∷ []
 
 abbrev IsDone : Settled × List ℕ → Type 0
-
 IsDone o = o.0 ≡ Done
 
 pub returns-then-not-in_range : goal.returns-then-not-in_range

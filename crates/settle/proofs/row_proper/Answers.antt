@@ -6,7 +6,6 @@ use Rattle.terms.specs.Load.{grade}
 use Rattle.terms.specs.Order.{Before}
 use Rattle.terms.specs.Flat.{left_at, right_at}
 use Rattle.laws.specs.Decides.{decides_no, decides_same}
-use borrow.Author.Rules.{rules}
 use Rattle.settle.proofs.row_proper.Goals as goal
 
 pub grade_of-grade-requires : goal.grade_of-grade-requires

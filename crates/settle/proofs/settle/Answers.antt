@@ -5,7 +5,6 @@ use Rattle.settle.specs.declared.Settled.{Settled}
 use Rattle.settle.specs.declared.Settled.TheVariants.{Done}
 use Rattle.settle.specs.Call.{tests, Accepted}
 use Rattle.settle.specs.Passed.{Fit, refused_not_done, all_passed, fit_of}
-use borrow.Author.Rules.{rules}
 use Rattle.settle.proofs.settle.Goals as goal
 
 pub returns-in_default : goal.returns-in_default

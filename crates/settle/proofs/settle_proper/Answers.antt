@@ -3,10 +3,9 @@ use mathlib.Core.List.{List}
 use Prim.Native.Nat.{ℕ}
 use native.Mathlib.Omega.{arith}
 use Rattle.terms.specs.Flat.{table_of}
-use Rattle.laws.specs.Order.{before_laws}
 use Rattle.leap.specs.Way.{rounds_fewer}
 use Rattle.laws.specs.Strides.{Strides}
-use Rattle.settle.specs.Going.{Going, lies, h_long, t_long, h_fits, calm_start, tops_fit, leap_fits, leap_strides, run_ends, run_long, run_falls, run_goes}
+use Rattle.settle.specs.Going.{lies, h_long, t_long, h_fits, calm_start, tops_fit, leap_fits, leap_strides, run_ends, run_long, run_falls, run_goes}
 use Rattle.settle.proofs.settle_proper.Goals as goal
 
 pub first_fit-r-requires : goal.first_fit-r-requires

@@ -2,7 +2,6 @@ use mathlib.Core.Path.{refl, ap}
 use native.Mathlib.Omega.{arith}
 use Rattle.sheet.specs.declared.Counts.{Counts}
 use Rattle.sheet.proofs.Texts as texts
-use borrow.Author.Rules.{rules}
 use Rattle.sheet.proofs.finish.Goals as goal
 
 pub clear_from-requires : goal.clear_from-requires

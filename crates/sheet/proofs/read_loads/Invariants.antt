@@ -1,12 +1,9 @@
-use Prim.Native.Nat.{ℕ, ◌≤◌, ◌-◌, ◌*◌}
-use mathlib.Core.Path.{◌≡◌, refl, sym, ap, ◌∙◌}
-use mathlib.Core.List.{List, []}
-use native.Mathlib.Omega.{arith}
-use borrow.Author.Rules.{rules}
+use Prim.Native.Nat.{◌≤◌, ◌-◌, ◌*◌}
+use mathlib.Core.Path.{◌≡◌}
+use mathlib.Core.List.{[]}
 use lib.ListN.{length, take, drop}
 use Rattle.shapes.specs.Split.{split}
 use Rattle.sheet.specs.Sheet.{load_lines}
-use Rattle.sheet.proofs.Blocks as blocks
 use Rattle.sheet.proofs.read_loads.Given as goal
 
 abbrev pub invariant-loop-at : goal.invariant-loop-at

@@ -2,7 +2,6 @@ use native.Mathlib.Omega.{arith}
 use lib.ListN.{drop}
 use Rattle.shapes.specs.Split.{split}
 use Rattle.sheet.proofs.Texts as texts
-use borrow.Author.Rules.{rules}
 use Rattle.sheet.proofs.read_rest.Goals as goal
 
 pub overflow_add-count : goal.overflow_add-count

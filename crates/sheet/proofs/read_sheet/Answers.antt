@@ -2,7 +2,6 @@ use mathlib.Core.Path.{refl, ◌∙◌}
 use mathlib.Core.Logic.{inl, inr}
 use native.Mathlib.Omega.{arith}
 use Rattle.sheet.proofs.Texts as texts
-use borrow.Author.Rules.{rules}
 use Rattle.sheet.proofs.read_sheet.Goals as goal
 
 -- `sheet::read_sheet` meets its contract: the tests before all lines, then what the text says.

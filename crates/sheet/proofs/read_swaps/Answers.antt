@@ -1,9 +1,8 @@
-use Prim.Native.Nat.{ℕ, ◌≤◌, ◌-◌, ◌*◌}
-use mathlib.Core.Path.{◌≡◌, refl, sym, ap, ◌∙◌}
-use mathlib.Core.List.{List, []}
+use Prim.Native.Nat.{ℕ, ◌*◌}
+use mathlib.Core.Path.{refl, sym, ap, ◌∙◌}
+use mathlib.Core.List.{List}
 use native.Mathlib.Omega.{arith}
-use borrow.Author.Rules.{rules}
-use lib.ListN.{length, take, drop}
+use lib.ListN.{take, drop}
 use Rattle.shapes.specs.Split.{split}
 use Rattle.sheet.specs.Sheet.{swap_lines}
 use Rattle.sheet.proofs.Blocks as blocks

@@ -3,7 +3,6 @@ use native.Mathlib.Omega.{arith}
 use lib.ListN.{take}
 use lib.Seq.{length-take-le}
 use Rattle.sheet.proofs.Texts as texts
-use borrow.Author.Rules.{rules}
 use Rattle.sheet.proofs.read_text.Goals as goal
 
 pub size_line-requires : goal.size_line-requires
