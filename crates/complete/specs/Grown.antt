@@ -12,7 +12,8 @@ use Rattle.laws.specs.Load.{all_map}
 use Rattle.laws.specs.Numbered.{numbered_long}
 use Rattle.padding.specs.Widen.{widen_sizes, widen_swap, widen_row, weights, resize_row}
 use Rattle.padding.specs.Kinds.{weights_long}
-use Rattle.padding.specs.Padded.{wide_sizes_fine, wide_kit, wide_swaps, widened_finished, cut_finished}
+use Rattle.padding.specs.Padded.{wide_sizes_fine, wide_kit, wide_swaps}
+use Rattle.padding.proofs.Padded.{widened_finished, cut_finished}
 use Rattle.growth.specs.State.{stamp, Working, AllDone}
 use Rattle.complete.specs.declared.Completed.TheVariants.{Rows}
 use Rattle.complete.specs.Call.{IsFinished, HasRoom, Finishing}

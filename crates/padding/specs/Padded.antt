@@ -1,13 +1,13 @@
--- PADDING CHANGES NOTHING. The finished table of a kit of n kinds, widened, is that of the kit of 12 kinds by weight, and there is no other.
---     widened_finished     from the finished table of n kinds to that of 12
---     narrowed_finished    and back: each finished table of the 12 kinds is one of the n kinds, widened
---     cut_finished         which is got by cutting its sides back to n counts
+-- Padding changes nothing by the cost: the finished table of a kit of n kinds, widened, is that of the kit of 12 kinds. By the
+-- weight, proofs/Padded.antt.
+--     cost_wide      from the finished table of n kinds to that of 12
+--     cost_narrow    and back, where its rows are widened ones
+--     rows_wide      as all its rows are
 -- Assumes nothing.
 use Rattle.std.specs.Prelude.{ℕ, zero, suc, ◌-◌, ◌≡◌, refl, List, [], ◌∷◌, ◌++◌, map, length, take, replicate, ℤ, pos}
-use Rattle.std.proofs.Common.{sym, ap, ap₂, subst, ◌∙◌, inl, inr, arith, take_at, length-take-le}
+use Rattle.std.proofs.Common.{sym, ap, ap₂, subst, ◌∙◌, inl, inr, arith, take_at}
 use mathlib.Core.List.Memᴰ
 use Rattle.std.proofs.lemmas.List.{append_cancel_right}
-use Rattle.std.proofs.lemmas.Simd.{map-map}
 use Rattle.terms.specs.Load.{zeros, grade}
 use Rattle.terms.specs.Limits.{All, SizeFine, CostFine, most_kinds}
 use Rattle.terms.specs.Swaps.{◌∈◌, Swap, Reaches}
@@ -18,11 +18,9 @@ use Rattle.laws.specs.Laid.{row_same}
 use Rattle.bridge.specs.Carry.{mem_map, mem_unmap}
 use Rattle.bridge.specs.Rows.{IsSwap, IsSheet}
 use Rattle.bridge.specs.Regular.{IsKit, Regular, reaches_regular}
-use Rattle.padding.specs.Widen.{FineKit, widen, widen_swap, widen_row, widen_sizes, widen_costs, weights, resize_row}
+use Rattle.padding.specs.Widen.{FineKit, widen, widen_swap, widen_row, widen_sizes, widen_costs}
 use Rattle.padding.specs.Beside.{lex_beside, lex_front}
-use Rattle.padding.specs.Kinds.{sizes_long, costs_long}
-use Rattle.padding.specs.Resize.{cut_back}
-use Rattle.padding.specs.Weigh.{Agree, before_weigh, weigh_before, finished_same}
+use Rattle.padding.specs.Kinds.{sizes_long}
 use Rattle.padding.specs.Reach.{HeadWide, reg, none_further, reach_narrow, first_wide, first_narrow, grade_wide, length_wide, head_wide, head_back, head_narrow}
 
 all_beside : {A : Type 0} (P : A → Type 0) (l : List A) (a : A) (k : ℕ) → All P l → P a → All P (l ++ replicate k a)
@@ -43,10 +41,10 @@ sorted_unmap f (a ∷ l) on (next p s) =
     next (λ b m. on a b (Memᴰ.head refl) (Memᴰ.tail m) (p (f b) (mem_map f l m))) (sorted_unmap f l (λ b c m k. on b c (Memᴰ.tail m) (Memᴰ.tail k)) s)
 
 -- a widened row's first n counts
-abbrev narrow_row : ℕ → Row → Row
+abbrev pub narrow_row : ℕ → Row → Row
 narrow_row n a = record { head = take n a.head; tail = take n a.tail }
 
-map_same : {A : Type 0} (f : A → A) (l : List A) → ((a : A) → a ∈ l → f a ≡ a) → map f l ≡ l
+pub map_same : {A : Type 0} (f : A → A) (l : List A) → ((a : A) → a ∈ l → f a ≡ a) → map f l ≡ l
 map_same f [] on = refl
 map_same f (a ∷ l) on = ap₂ ◌∷◌ (on a (Memᴰ.head refl)) (map_same f l (λ b m. on b (Memᴰ.tail m)))
 
@@ -57,7 +55,7 @@ back_again n x y e d = ap (λ (l : List ℕ). widen n (take n l)) (sym d) ∙ ap
 module _ {n : ℕ} {sizes : List ℕ} {costs : List ℤ} {sheet : List Swap} (fine : FineKit n sizes costs) (swaps : IsSheet n sizes sheet) (bound : ℕ) where
   -- ---- the widened kit and sheet
 
-  length_sizes : length (widen_sizes n sizes) ≡ most_kinds
+  pub length_sizes : length (widen_sizes n sizes) ≡ most_kinds
   length_sizes = sizes_long n sizes fine.sized fine.few
 
   pub wide_sizes_fine : All SizeFine (widen_sizes n sizes)
@@ -87,11 +85,11 @@ module _ {n : ℕ} {sizes : List ℕ} {costs : List ℤ} {sheet : List Swap} (fi
 
   -- ---- rows
 
-  abbrev Here : List Row → Type 0
+  abbrev pub Here : List Row → Type 0
   Here = Finished n bound sizes costs (Reaches sheet)
 
   -- by the cost, and by the weight
-  abbrev Wide : List ℤ → List Row → Type 0
+  abbrev pub Wide : List ℤ → List Row → Type 0
   Wide cs = Finished most_kinds bound (widen_sizes n sizes) cs (Reaches (map (widen_swap n) sheet))
 
   above_wide : (a b : Row) → length a.head ≡ n → length b.head ≡ n → Above sizes a b → Above (widen_sizes n sizes) (widen_row n a) (widen_row n b)
@@ -106,7 +104,7 @@ module _ {n : ℕ} {sizes : List ℕ} {costs : List ℤ} {sheet : List Swap} (fi
 
   -- ---- by the cost
 
-  cost_wide : {T : List Row} → Here T → Wide (widen_costs n costs) (map (widen_row n) T)
+  pub cost_wide : {T : List Row} → Here T → Wide (widen_costs n costs) (map (widen_row n) T)
   cost_wide {T} f = record {
     heads = λ a m. let r = mem_unmap (widen_row n) T m in subst (λ (b : Row). HeadWide fine swaps bound b.head) r.2 (head_wide fine swaps bound (f.heads r.0 r.1));
     tails = λ a m.
@@ -119,7 +117,7 @@ module _ {n : ℕ} {sizes : List ℕ} {costs : List ℤ} {sheet : List Swap} (fi
     order = sorted_map (widen_row n) T (λ a b m k. above_wide a b (f.heads a m).counts (f.heads b k).counts) f.order;
   }
 
-  cost_narrow : (T : List Row) → ((a : Row) → a ∈ T → length a.head ≡ n) → Wide (widen_costs n costs) (map (widen_row n) T) → Here T
+  pub cost_narrow : (T : List Row) → ((a : Row) → a ∈ T → length a.head ≡ n) → Wide (widen_costs n costs) (map (widen_row n) T) → Here T
   cost_narrow T long f = record {
     heads = λ a m. head_back fine swaps bound (long a m) (f.heads (widen_row n a) (mem_map (widen_row n) T m));
     tails = λ a m. first_narrow fine swaps (zeros (most_kinds - n)) (long a m) (none_further n) (f.tails (widen_row n a) (mem_map (widen_row n) T m));
@@ -131,7 +129,7 @@ module _ {n : ℕ} {sizes : List ℕ} {costs : List ℤ} {sheet : List Swap} (fi
   }
 
   -- each row of the wide kit's finished table is a widened one
-  rows_wide : (U : List Row) → Wide (widen_costs n costs) U → (a : Row) → a ∈ U → widen_row n (narrow_row n a) ≡ a
+  pub rows_wide : (U : List Row) → Wide (widen_costs n costs) U → (a : Row) → a ∈ U → widen_row n (narrow_row n a) ≡ a
   rows_wide U f a m =
       let g = head_narrow fine swaps bound (f.heads a m) in
       let e : length g.0 ≡ n = g.1.counts in
@@ -144,40 +142,5 @@ module _ {n : ℕ} {sizes : List ℕ} {costs : List ℤ} {sheet : List Swap} (fi
   pub wide_regular : Regular most_kinds (widen_sizes n sizes) (Reaches (map (widen_swap n) sheet))
   wide_regular = reaches_regular (widen_costs n costs) wide_kit (map (widen_swap n) sheet) wide_swaps
 
-  even : length (widen_costs n costs) ≡ length (widen_sizes n sizes)
-  even = costs_long n sizes costs fine ∙ sym length_sizes
-
-  on : Agree most_kinds (widen_sizes n sizes) (widen_costs n costs) (map pos (weights n sizes costs))
-  on = before_weigh most_kinds (widen_sizes n sizes) (widen_costs n costs) even wide_sizes_fine wide_costs_fine
-
-  back : Agree most_kinds (widen_sizes n sizes) (map pos (weights n sizes costs)) (widen_costs n costs)
-  back = weigh_before most_kinds (widen_sizes n sizes) (widen_costs n costs) even wide_sizes_fine wide_costs_fine
-
-  -- The finished table, widened, is the finished table of the 12 kinds by weight.
-  pub widened_finished : {T : List Row} → Finished n bound sizes costs (Reaches sheet) T → Finished most_kinds bound (widen_sizes n sizes) (map pos (weights n sizes costs)) (Reaches (map (widen_swap n) sheet)) (map (widen_row n) T)
-  widened_finished f = finished_same wide_regular bound (widen_costs n costs) (map pos (weights n sizes costs)) on back (cost_wide f)
-
-  -- And each finished table of the 12 kinds is that of the n kinds, widened.
-  pub narrowed_finished :
-      (U : List Row) → Finished most_kinds bound (widen_sizes n sizes) (map pos (weights n sizes costs)) (Reaches (map (widen_swap n) sheet)) U
-      → (T : List Row) × Finished n bound sizes costs (Reaches sheet) T × (map (widen_row n) T ≡ U)
-  narrowed_finished U f =
-      let c : Wide (widen_costs n costs) U = finished_same wide_regular bound (map pos (weights n sizes costs)) (widen_costs n costs) back on f in
-      let T : List Row = map (narrow_row n) U in
-      let w : map (widen_row n) T ≡ U = map-map (widen_row n) (narrow_row n) U ∙ map_same (λ a. widen_row n (narrow_row n a)) U (rows_wide U c) in
-      (T, cost_narrow T long (rw w c), w)
-    where
-      long : (a : Row) → a ∈ map (narrow_row n) U → length a.head ≡ n
-      long a m =
-          let r = mem_unmap (narrow_row n) U m in
-          ap (λ (b : Row). length b.head) (sym r.2) ∙ length-take-le n r.0.head (omega (arith, fine.few, (f.heads r.0 r.1).counts))
-
-  finished_sides : (T : List Row) → Finished n bound sizes costs (Reaches sheet) T → All (Sides n) T
+  pub finished_sides : (T : List Row) → Finished n bound sizes costs (Reaches sheet) T → All (Sides n) T
   finished_sides T f = all_members T λ a m. let e : length a.head ≡ n = (f.heads a m).counts in record { of_head = e; of_tail = (reg fine swaps).keeps e (f.tails a m).reached }
-
-  -- So the 12 kinds' finished table, its sides cut back to n counts, is the finished table.
-  pub cut_finished : (U : List Row) → Finished most_kinds bound (widen_sizes n sizes) (map pos (weights n sizes costs)) (Reaches (map (widen_swap n) sheet)) U → Finished n bound sizes costs (Reaches sheet) (map (resize_row n) U)
-  cut_finished U f =
-      let t = narrowed_finished U f in
-      let e : t.0 ≡ map (resize_row n) U = sym (cut_back n t.0 fine.few (finished_sides t.0 t.1)) ∙ ap (map (resize_row n)) t.2 in
-      subst (Finished n bound sizes costs (Reaches sheet)) e t.1

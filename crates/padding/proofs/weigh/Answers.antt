@@ -10,7 +10,7 @@ use mir.ValLaws.{to_z_pos, to_z-of_z}
 use Rattle.terms.specs.Limits.{SizeFine, CostFine}
 use Rattle.laws.specs.Machine.{small, widened}
 use Rattle.padding.specs.Widen.{weight}
-use Rattle.padding.specs.Weigh.{weight_whole, weight_room}
+use Rattle.padding.proofs.Weights.{weight_whole, weight_room}
 use Rattle.padding.proofs.weigh.Goals as goal
 
 -- the sum, as the machine has it
