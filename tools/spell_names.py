@@ -1,7 +1,7 @@
 #!/usr/bin/env python3
 """Brings the repository's own names in specs/ and proofs/ to today's spelling: words in snake case.
 
-usage: tools/spell_names.py [--list] at the top of the repository, once, after port.py
+usage: tools/spell_names.py [--list] at the top of the repository, once, after port.py (docs/PORT.md names the commit)
 
 Each name that a file of specs/ or proofs/ declares (definition, lemma, field, constructor) and that has a dash or a capital
 inside is written in snake case, wherever it stands as a whole word: in specs/, proofs/, the contracts of src/, the texts of
@@ -76,6 +76,8 @@ def page(text, table):
 
 
 def main():
+    if glob.glob("crates/*/proofs/*/Answers.antt"):
+        raise SystemExit("the proofs have answers, whose labels this would respell: it ran once, before there were any (docs/PORT.md)")
     names, inner = declared()
     table = {n: snake(n) for n in names if snake(n) != n and not n.startswith("◌")}
     fall = collections.defaultdict(set)

@@ -12,7 +12,7 @@ use Rattle.terms.specs.Load.{zeros}
 use Rattle.terms.specs.Flat.{table_of}
 use Rattle.terms.specs.Limits.{most_rows}
 use Rattle.terms.specs.Refusals.{number_of}
-use Rattle.io.specs.Counts.{IsPrefixLen as CountsOf}
+use Rattle.io.specs.Counts.{IsPrefixLen}
 use Rattle.sheet.specs.declared.Counts.{Counts}
 use Rattle.sheet.specs.declared.Read.{Read}
 use Rattle.sheet.specs.declared.Read.TheVariants.{Sheet}
@@ -77,7 +77,7 @@ module _ (text sizes : List ℕ) (costs : List ℤ) (swaps loads : List ℕ) {a 
   }
 
 -- a count of bytes that were stored from the front
-pub written_counts : {Right : List ℕ → Type 0} {o o' : List ℕ} {r : ℕ} → Written Right 0 o r o' → r ≤ length o → CountsOf r o'
+pub written_counts : {Right : List ℕ → Type 0} {o o' : List ℕ} {r : ℕ} → Written Right 0 o r o' → r ≤ length o → IsPrefixLen r o'
 written_counts {o = o} {o' = o'} {r = r} p h =
     let within : r ≤ length o' = omega (arith, stored_length p.stored) in
     (within, sym (length-take-le r o' within))

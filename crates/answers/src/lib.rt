@@ -3,7 +3,7 @@
 
 ghost use Rattle.std.specs.Prelude.{◌+◌, ◌*◌, ◌≤◌, length};
 ghost use Rattle.terms.specs.Limits.{most_loads, most_text};
-ghost use Rattle.io.specs.Counts.{IsPrefixLen as CountsOf};
+ghost use Rattle.io.specs.Counts.{IsPrefixLen};
 ghost use Rattle.report.specs.Report.{Written};
 ghost use Rattle.answers.specs.Answer.{Show, told_by, Answer, out_most, Counted, Buffers};
 
@@ -77,7 +77,7 @@ fn sheet_lines(
 pub fn answer(text: &[u8], out: &mut [u8]) -> usize
     requires { out_most ≤ length out.old }
     ensures written { Written (Answer text.now) 0 out.old result out.new }
-    ensures counts_of { CountsOf result out.new }
+    ensures in_buffer { IsPrefixLen result out.new }
 {
     let mut sizes = [0u16; 12];
     let mut costs = [0i32; 12];

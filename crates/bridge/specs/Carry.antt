@@ -16,7 +16,7 @@ in_order (next p s) = more p (in_order s)
 
 module _ {A B : Type 0} (f : A → B) where
   pub mem_map : {a : A} (l : List A) → a ∈ l → f a ∈ map f l
-  mem_map {a = a} [] x' = elim x' [ ]
+  mem_map [] m = elim m [ ]
   mem_map (b ∷ l) (Memᴰ.head e) = Memᴰ.head (λ i. f (e i))
   mem_map (b ∷ l) (Memᴰ.tail m) = Memᴰ.tail (mem_map l m)
 

@@ -16,7 +16,7 @@ use Rattle.bridge.specs.Instance.{Load, sum}
 use Rattle.bridge.specs.Rows.{plain_table}
 use Rattle.bridge.specs.Tables.{ByCounts, first_down, finished_loads}
 use Rattle.bridge.specs.Settling.{none_up, settles_up, settles_down, leads_up}
-use Rattle.bridge.specs.Regular.{IsKit, Regular, kit_of_lem, OfLoads, regular_alike, regular_matches}
+use Rattle.bridge.specs.Regular.{IsKit, Regular, loads_kit, OfLoads, regular_alike, regular_matches}
 
 -- settling ends at a load of n counts and of the same grade
 pub record Ends (n : ℕ) (sizes : List ℕ) (T : List Row) (x : List ℕ) : Type 0 where
@@ -27,7 +27,7 @@ pub record Ends (n : ℕ) (sizes : List ℕ) (T : List Row) (x : List ℕ) : Typ
 
 module _ {n : ℕ} {sizes : List ℕ} (costs : List ℤ) (kit : IsKit n sizes) where
   abbrev K : Kit
-  K = kit_of_lem costs kit
+  K = loads_kit costs kit
 
   pub ends_loads : (T : List (RowOf (Load n))) → AllProper K T → (x : Load n) → Ends n sizes (plain_table T) x.0
   ends_loads T ok x = record {

@@ -33,12 +33,12 @@ abbrev pub OfLoads : {n : ℕ} → (List ℕ → List ℕ → Type 0) → Load n
 OfLoads reach x y = reach x.0 y.0
 
 -- the kit of lists with the cost order
-abbrev pub kit_of_lem : {n : ℕ} {sizes : List ℕ} (costs : List ℤ) → IsKit n sizes → Kit
-kit_of_lem {n} {sizes} costs kit = the_kit n sizes kit.of_sizes kit.from_one costs (before_laws costs n)
+abbrev pub loads_kit : {n : ℕ} {sizes : List ℕ} (costs : List ℤ) → IsKit n sizes → Kit
+loads_kit {n} {sizes} costs kit = the_kit n sizes kit.of_sizes kit.from_one costs (before_laws costs n)
 
 module _ {n : ℕ} {sizes : List ℕ} (costs : List ℤ) (kit : IsKit n sizes) where
   -- a relation of lists that matches one of the theory's is regular
-  pub match_regular : {reach : List ℕ → List ℕ → Type 0} {R : Load n → Load n → Type 0} → Alike (kit_of_lem costs kit) R → Matches n reach R → Regular n sizes reach
+  pub match_regular : {reach : List ℕ → List ℕ → Type 0} {R : Load n → Load n → Type 0} → Alike (loads_kit costs kit) R → Matches n reach R → Regular n sizes reach
   match_regular eqv match = record {
     keeps = match.keeps;
     stays = λ {x = x} e. match.from (x, e) (x, e) (eqv.rel_refl (x, e));
@@ -58,7 +58,7 @@ module _ {n : ℕ} {sizes : List ℕ} (costs : List ℤ) (kit : IsKit n sizes) w
         eqv.rel_grade (x, e) y' (match.into (x, e) y' r);
   }
 
-  pub regular_alike : {reach : List ℕ → List ℕ → Type 0} → Regular n sizes reach → Alike (kit_of_lem costs kit) (OfLoads reach)
+  pub regular_alike : {reach : List ℕ → List ℕ → Type 0} → Regular n sizes reach → Alike (loads_kit costs kit) (OfLoads reach)
   regular_alike reg = record {
     rel_refl = λ x. reg.stays x.1;
     rel_sym = λ x y r. reg.turns x.1 r;
@@ -73,10 +73,10 @@ regular_matches reg = record { keeps = reg.keeps; into = λ x y r. r; from = λ 
 module _ {n : ℕ} {sizes : List ℕ} (costs : List ℤ) (kit : IsKit n sizes) (sheet : List Swap) (swaps : IsSheet n sizes sheet) where
   -- what the theory's loads reach by the sheet
   abbrev pub ReachOf : Load n → Load n → Type 0
-  ReachOf = Reach (kit_of_lem costs kit) (Given (kit_of_lem costs kit) (loads_sheet sizes sheet swaps))
+  ReachOf = Reach (loads_kit costs kit) (Given (loads_kit costs kit) (loads_sheet sizes sheet swaps))
 
-  pub reaches_alike : Alike (kit_of_lem costs kit) ReachOf
-  reaches_alike = sheet_alike (kit_of_lem costs kit) (loads_sheet sizes sheet swaps) (loads_even sizes sheet swaps)
+  pub reaches_alike : Alike (loads_kit costs kit) ReachOf
+  reaches_alike = sheet_alike (loads_kit costs kit) (loads_sheet sizes sheet swaps) (loads_even sizes sheet swaps)
 
   pub reaches_matches : Matches n (Reaches sheet) ReachOf
   reaches_matches =

@@ -61,7 +61,7 @@ module _ (n : ℕ) (sizes : List ℕ) (sized : length sizes ≡ n) (pos : From 1
   FirstOf x b T = (a : RowOf (Load n)) × First K x a T × (plain a ≡ b)
 
   pub first_up : (x : Load n) (T : List (RowOf (Load n))) {b : Row} → FirstFit x.0 b (plain_table T) → FirstOf x b T
-  first_up x [] {b = b} x'' = elim x'' [ ]
+  first_up x [] f = elim f [ ]
   first_up x (a ∷ T) (hit e f) =
       (a, fits-here refl (rest_of a.head x (subst (λ (c : Row). Fits c.head x.0) e f)), sym e)
   first_up x (a ∷ T) (miss w r) =

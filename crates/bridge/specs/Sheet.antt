@@ -15,11 +15,11 @@ use Rattle.theory.specs.Finished.{Finished as FinishedIn}
 use Rattle.bridge.specs.Instance.{Load}
 use Rattle.bridge.specs.Rows.{plain, plain_table, IsSheet}
 use Rattle.bridge.specs.Tables.{ByCounts, finished_down, finished_loads}
-use Rattle.bridge.specs.Regular.{IsKit, kit_of_lem, ReachOf, reaches_alike, reaches_matches}
+use Rattle.bridge.specs.Regular.{IsKit, loads_kit, ReachOf, reaches_alike, reaches_matches}
 
 module _ {n : ℕ} {sizes : List ℕ} (costs : List ℤ) (kit : IsKit n sizes) (sheet : List Swap) (swaps : IsSheet n sizes sheet) (bound : ℕ) where
   abbrev K : Kit
-  K = kit_of_lem costs kit
+  K = loads_kit costs kit
 
   pub sheet_finished : (T : List (RowOf (Load n))) → FinishedIn K ByCounts (ReachOf costs kit sheet swaps) bound T → Finished n bound sizes costs (Reaches sheet) (plain_table T)
   sheet_finished = finished_down n sizes kit.of_sizes kit.from_one costs (before_laws costs n) (Reaches sheet) (ReachOf costs kit sheet swaps) (reaches_alike costs kit sheet swaps) (reaches_matches costs kit sheet swaps) bound

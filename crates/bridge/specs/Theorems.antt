@@ -29,7 +29,7 @@ use Rattle.bridge.specs.Carry.{in_order, mem_unmap}
 use Rattle.bridge.specs.Rows.{plain, plain_table, loads_table, plain_loads, IsSheet, loads_sheet, loads_even}
 use Rattle.bridge.specs.Tables.{ByCounts, by_counts, finished_sided}
 use Rattle.bridge.specs.Settling.{settles_one, proper_up}
-use Rattle.bridge.specs.Regular.{IsKit, Regular, kit_of_lem, OfLoads, regular_alike, regular_matches}
+use Rattle.bridge.specs.Regular.{IsKit, Regular, loads_kit, OfLoads, regular_alike, regular_matches}
 use Rattle.bridge.specs.Sheet.{sheet_finished}
 use Rattle.bridge.specs.Demands.{Ends, ends_loads, Loaded, loaded, proper_loads, first_loads, sequence_loads, joined_loads}
 
@@ -41,7 +41,7 @@ module _ {n : ℕ} {sizes : List ℕ} (costs : List ℤ) (kit : IsKit n sizes) w
   -- For every sheet and bound there is a finished table.
   pub finished_exists : (sheet : List Swap) → IsSheet n sizes sheet → (bound : ℕ) → (T : List Row) × Finished n bound sizes costs (Reaches sheet) T
   finished_exists sheet swaps bound =
-      let t = finished_some (kit_of_lem costs kit) ByCounts (by_counts n) (loads_sheet sizes sheet swaps) (loads_even sizes sheet swaps) bound in
+      let t = finished_some (loads_kit costs kit) ByCounts (by_counts n) (loads_sheet sizes sheet swaps) (loads_even sizes sheet swaps) bound in
       (plain_table t.0, sheet_finished costs kit sheet swaps bound t.0 t.1)
 
   -- Settling by any table of proper rows ends, at a load of n counts and of the same grade.
@@ -49,7 +49,7 @@ module _ {n : ℕ} {sizes : List ℕ} (costs : List ℤ) (kit : IsKit n sizes) w
   settling_ends {bound} T w ok x e =
       let U : List (RowOf (Load n)) = loads_table T w in
       let q : plain_table U ≡ T = plain_loads T w in
-      let fine : AllProper (kit_of_lem costs kit) U = proper_up n sizes kit.of_sizes kit.from_one costs (before_laws costs n) U (subst (λ (W : List Row). (a : Row) → a ∈ W → Proper bound sizes costs a) (sym q) ok) in
+      let fine : AllProper (loads_kit costs kit) U = proper_up n sizes kit.of_sizes kit.from_one costs (before_laws costs n) U (subst (λ (W : List Row). (a : Row) → a ∈ W → Proper bound sizes costs a) (sym q) ok) in
       subst (λ (W : List Row). Ends n sizes W x) q (ends_loads costs kit U fine (x, e))
 
   -- ---- a finished table, of any relation that is regular
@@ -60,7 +60,7 @@ module _ {n : ℕ} {sizes : List ℕ} (costs : List ℤ) (kit : IsKit n sizes) w
     finished_unique {bound} {T} {U} f g =
         let t : Loaded costs kit reach bound T = loaded costs kit reg bound T f in
         let u : Loaded costs kit reach bound U = loaded costs kit reg bound U g in
-        sym t.1 ∙ ap plain_table (finished_one (kit_of_lem costs kit) ByCounts (by_counts n) (OfLoads reach) (regular_alike costs kit reg) bound t.0 u.0 t.2 u.2) ∙ u.1
+        sym t.1 ∙ ap plain_table (finished_one (loads_kit costs kit) ByCounts (by_counts n) (OfLoads reach) (regular_alike costs kit reg) bound t.0 u.0 t.2 u.2) ∙ u.1
 
     -- Rows found so far, each with a head of its own, are never more than its rows.
     pub never_more_rows : {bound : ℕ} {T : List Row} → Finished n bound sizes costs reach T → (found : List Row) → Sorted (λ a b. a.head ≡ b.head → ⊥) found → ((a : Row) → a ∈ found → Head n bound sizes costs reach a.head) → length found ≤ length T

@@ -1,3 +1,2 @@
+// The theory is about the definitions of `terms`: the kit of lists of n counts, and the theorems in the words of 01. Definitions and theorems only.
 #![tactic(auto)]
-
-// The theory is about the definitions of `terms`: the kit of lists of n counts, and the theorems in the words of 01. Specs only.

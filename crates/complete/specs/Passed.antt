@@ -42,8 +42,8 @@ refused_not_rows k why place e = let z : ◌≡◌ {A = ℕ} 0 1 = cc in omega a
 
 module _ (n bound : ℕ) (sizes : List ℕ) (costs : List ℤ) (swaps rules : List ℕ) where
   -- where each swap has passed, the sheet is one
-  sheet_of_lem : rows_lent n swaps * (2 * n) ≡ length swaps → ((i : ℕ) → i < rows_lent n swaps → AllHold (swap_tests n sizes swaps rules i)) → IsSheet n sizes (sheet_of n swaps)
-  sheet_of_lem whole hold s m =
+  is_sheet : rows_lent n swaps * (2 * n) ≡ length swaps → ((i : ℕ) → i < rows_lent n swaps → AllHold (swap_tests n sizes swaps rules i)) → IsSheet n sizes (sheet_of n swaps)
+  is_sheet whole hold s m =
       let t = in_numbered (swap_at n swaps) (rows_lent n swaps) m in
       let i : ℕ = t.0 in
       let lies = row_in n (rows_lent n swaps) i (length swaps) t.1 (rows_lie n swaps whole) in
@@ -57,11 +57,11 @@ module _ (n bound : ℕ) (sizes : List ℕ) (costs : List ℤ) (swaps rules : Li
         bounded = h.1.0;
         kit = record { few = h.0.1; sized = lengths.sizes_long; costed = lengths.costs_long; sizes_fine = h.1.1.1.0; costs_fine = h.1.1.1.1.0 };
         lent = lengths.sheet;
-        sheet = sheet_of_lem lengths.sheet.whole (turns_hold (rows_lent n swaps) (swap_tests n sizes swaps rules) h.1.1.1.1.1);
+        sheet = is_sheet lengths.sheet.whole (turns_hold (rows_lent n swaps) (swap_tests n sizes swaps rules) h.1.1.1.1.1);
       }
 
-  pub table_of_lem : AllHold (input_tests n bound sizes costs swaps rules) → Lent n most_rows rules
-  table_of_lem h = h.1.1.0.table
+  pub table_lent : AllHold (input_tests n bound sizes costs swaps rules) → Lent n most_rows rules
+  table_lent h = h.1.1.0.table
 
   -- ---- the answer that no test of what is lent gives
 

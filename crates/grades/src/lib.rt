@@ -118,8 +118,8 @@ fn join_pairs(
     rows: usize,
     room: usize,
 ) -> usize
-    requires by_index { (swaps : List ℕ) × (stamps : List ℕ) × (count : ℕ) × Listing weights.now swaps stamps count g due.now mates.now pairs table.old rows }
-    requires rows_le_room { (rows ≤ room) × (room ≤ 256) × (room * 24 + 24 ≤ length table.old) × (pairs ≤ length due.now) × (pairs ≤ length mates.now) }
+    requires listed { (swaps : List ℕ) × (stamps : List ℕ) × (count : ℕ) × Listing weights.now swaps stamps count g due.now mates.now pairs table.old rows }
+    requires has_room { (rows ≤ room) × (room ≤ 256) × (room * 24 + 24 ≤ length table.old) × (pairs ≤ length due.now) × (pairs ≤ length mates.now) }
     ensures { PairsDone weights.now due.now mates.now pairs g table.old rows room table.new result }
 {
     let mut now = rows;
@@ -139,8 +139,8 @@ fn join_pairs(
 
 // The tails of the rows from base on settled.
 fn settle_tails(weights: &[u32], table: &mut [u16], base: usize, rows: usize)
-    requires by_index { (swaps : List ℕ) × (stamps : List ℕ) × (count : ℕ) × (g : ℕ) × (w : Within weights.now swaps stamps count g table.old rows) × (length w.low ≡ base) }
-    requires base_le_rows { (base ≤ rows) × (rows * 24 ≤ length table.old) }
+    requires inside { (swaps : List ℕ) × (stamps : List ℕ) × (count : ℕ) × (g : ℕ) × (w : Within weights.now swaps stamps count g table.old rows) × (length w.low ≡ base) }
+    requires in_table { (base ≤ rows) × (rows * 24 ≤ length table.old) }
     ensures { TailsSettled weights.now table.old base rows table.new }
 {
     let mut r = base;
@@ -173,8 +173,8 @@ fn one_grade(
     mates: &mut [u16],
     pairs: usize,
 ) -> Grown
-    requires pair_list { ((w : Working bound sizes.now weights.now swaps.now stamps.now count) × AtGrade w g table.old rows) × PairList bound sizes.now table.old rows due.old mates.old pairs }
-    requires le_g { (1 ≤ g) × (g ≤ bound) × (rows ≤ room) × (room ≤ 256) × (room * 24 + 24 ≤ length table.old) × (length due.old ≡ 32640) × (length mates.old ≡ 32640) }
+    requires at_grade { ((w : Working bound sizes.now weights.now swaps.now stamps.now count) × AtGrade w g table.old rows) × PairList bound sizes.now table.old rows due.old mates.old pairs }
+    requires has_room { (1 ≤ g) × (g ≤ bound) × (rows ≤ room) × (room ≤ 256) × (room * 24 + 24 ≤ length table.old) × (length due.old ≡ 32640) × (length mates.old ≡ 32640) }
     ensures { GradeDone bound sizes.now weights.now swaps.now stamps.now count g table.old rows room table.new due.new mates.new result.rows result.pairs }
 {
     let swapped = join_swaps(weights, swaps, stamps, count, g, table, rows, room);

@@ -16,7 +16,7 @@ use Rattle.theory.specs.Complete.{sheet_alike}
 use Rattle.rack.specs.Racked.{costs_of}
 use Rattle.bridge.specs.Instance.{Load}
 use Rattle.bridge.specs.Rows.{plain, plain_table, plain_swap, plain_sheet, IsSheet, loads_sheet, plain_loads_sheet, loads_even}
-use Rattle.bridge.specs.Regular.{IsKit, kit_of_lem, ReachOf}
+use Rattle.bridge.specs.Regular.{IsKit, loads_kit, ReachOf}
 
 -- sizes, bound and swaps of the working kit
 pub record Setting (bound : ℕ) (sizes swaps : List ℕ) (count : ℕ) : Type 0 where
@@ -43,7 +43,7 @@ module _ (T : List (RowOf (Load 12))) (d : RowOf (Load 12)) (table : List ℕ) (
 
 module _ {bound : ℕ} {sizes swaps : List ℕ} {count : ℕ} (weights : List ℕ) (s : Setting bound sizes swaps count) where
   abbrev pub KitOf : Kit
-  KitOf = kit_of_lem (costs_of weights) s.kit
+  KitOf = loads_kit (costs_of weights) s.kit
 
   abbrev pub SheetOf : List (Load 12 × Load 12)
   SheetOf = loads_sheet sizes (numbered (swap_at 12 swaps) 0 count) s.sheet

@@ -1,3 +1,2 @@
+// What the loops of completion keep, in the theory: definitions and theorems only.
 #![tactic(auto)]
-
-// What the loops of completion keep, in the theory: specs only.

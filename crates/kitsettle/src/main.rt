@@ -1,7 +1,7 @@
-#![tactic(auto)]
-
 // The program: reads a sheet from standard input, and writes its rules and settled loads, or why it is refused.
 // A text of more than 65,536 bytes shows by one byte more; the longest output, of 256 rows and 1,024 loads, has 122,368 bytes.
+#![tactic(auto)]
+
 fn main() {
     let mut text = [0u8; 65537];
     let mut out = [0u8; 122368];

@@ -1,6 +1,6 @@
 -- A signed local is its bits in the proofs: `to_z w64 s` is its number. These laws take the machine's readings off, for counts of 16 bits and costs of 32.
 --     small          a number within 2 ^ 63 on each side fits an i64, and is read back from its bits
---     term-..        count times cost, as `(x[i] as i64) * (costs[i] as i64)` is lowered
+--     term_..        count times cost, as `(x[i] as i64) * (costs[i] as i64)` is lowered
 -- Assumes nothing.
 use Rattle.std.specs.Prelude.{ℕ, ◌+◌, ◌*◌, ◌<◌, ◌≤◌, ◌≡◌, ℤ, pos, negsuc, ◌+ℤ◌, ◌*ℤ◌, List, length, get_or, drop}
 use Rattle.std.proofs.Common.{sym, ap, ap₂, subst, ◌∙◌, arith, mul-le-mul, add-mul, le_of_lt, to_z, of_z, SFits}

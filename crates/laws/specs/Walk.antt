@@ -1,6 +1,6 @@
 -- A walk along lists from index i on: what is left of a definition at i is its step at i and what is left at i + 1.
 --     next          the rest of a list is its element at i and the rest at i + 1
---     ..-next       a step;  ..-done  past the end nothing is left
+--     .._next       a step;  .._done  past the end nothing is left
 -- Assumes nothing.
 use Rattle.std.specs.Prelude.{ℕ, suc, ◌+◌, ◌*◌, ◌<◌, ◌≤◌, ◌≡◌, Bool, true, false, ◌⊎◌, List, ◌∷◌, length, get_or, drop, ℤ, pos, ◌+ℤ◌, ◌*ℤ◌}
 use Rattle.std.proofs.Common.{sym, ◌∙◌, inl, inr, add-one, mul-le-mul, le_of_suc-le-suc, arith, drop_of_length-le, drop-cons}

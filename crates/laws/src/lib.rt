@@ -1,3 +1,2 @@
+// Laws of loads, of signed sums, of the cost order and of outcomes: definitions and theorems only.
 #![tactic(auto)]
-
-// Laws of loads, of signed sums, of the cost order and of outcomes: specs only.

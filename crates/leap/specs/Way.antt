@@ -49,12 +49,12 @@ rounds_all more (h ∷ hs) (t ∷ ts) [] p q f = tt
 rounds_all more (h ∷ hs) (t ∷ ts) (x ∷ xs) p q f =
     (f 0 (omega arith), rounds_all more hs ts xs (omega arith) (omega arith) (λ i l. f (suc i) (omega arith)))
 
-pub rounds_at : (more : ℕ) (h t x : List ℕ) (i : ℕ) → length h ≡ length x → length t ≡ length x → i < length x → Rounds more h t x → get_or h i 0 + more * (get_or h i 0 - get_or t i 0) ≤ get_or x i 0
-rounds_at more [] t x i p q l r = absurd (omega arith)
-rounds_at more (h ∷ hs) [] x i p q l r = absurd (omega arith)
-rounds_at more (h ∷ hs) (t ∷ ts) [] i p q l r = absurd (omega arith)
-rounds_at more (h ∷ hs) (t ∷ ts) (x ∷ xs) zero p q l r = r.0
-rounds_at more (h ∷ hs) (t ∷ ts) (x ∷ xs) (suc i) p q l r = rounds_at more hs ts xs i (omega arith) (omega arith) (omega arith) r.1
+pub rounds_here : (more : ℕ) (h t x : List ℕ) (i : ℕ) → length h ≡ length x → length t ≡ length x → i < length x → Rounds more h t x → get_or h i 0 + more * (get_or h i 0 - get_or t i 0) ≤ get_or x i 0
+rounds_here more [] t x i p q l r = absurd (omega arith)
+rounds_here more (h ∷ hs) [] x i p q l r = absurd (omega arith)
+rounds_here more (h ∷ hs) (t ∷ ts) [] i p q l r = absurd (omega arith)
+rounds_here more (h ∷ hs) (t ∷ ts) (x ∷ xs) zero p q l r = r.0
+rounds_here more (h ∷ hs) (t ∷ ts) (x ∷ xs) (suc i) p q l r = rounds_here more hs ts xs i (omega arith) (omega arith) (omega arith) r.1
 
 -- fewer rounds need less
 pub rounds_fewer : (more m : ℕ) (h t x : List ℕ) → m ≤ more → Rounds more h t x → Rounds m h t x

@@ -127,8 +127,8 @@ fn fewer(p: &[u16], h: &[u16], t: &[u16], x: &[u16], more: u16) -> u16
 
 // At most `more` rounds on the way of which no row before r fits.
 pub fn calm(n: usize, rules: &[u16], r: usize, h: &[u16], t: &[u16], x: &[u16], more: u16) -> u16
-    requires n_le_most_kinds { (n ≤ most_kinds) × (r * (2 * n) ≤ length rules.now) × (length h.now ≡ n) × (length t.now ≡ n) × (length x.now ≡ n) }
-    requires by_index { ((m : ℕ) → m ≤ more → UpTo 65535 (tops m h.now t.now x.now)) × Calm n rules.now r h.now t.now x.now 0 }
+    requires lengths { (n ≤ most_kinds) × (r * (2 * n) ≤ length rules.now) × (length h.now ≡ n) × (length t.now ≡ n) × (length x.now ≡ n) }
+    requires tops_fit { ((m : ℕ) → m ≤ more → UpTo 65535 (tops m h.now t.now x.now)) × Calm n rules.now r h.now t.now x.now 0 }
     ensures { (result ≤ more) × Calm n rules.now r h.now t.now x.now result }
 {
     let mut y = [0u16; 12];

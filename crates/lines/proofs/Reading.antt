@@ -58,10 +58,10 @@ not_end : (t : Bool) → not t ≡ true → t ≡ false
 not_end true e = sym e
 not_end false e = refl
 
-is_empty_lem : (t : Bool) (b : ℕ) (l : List ℕ) → t ≡ (cond t true (closed l) && same (cond t [] (b ∷ piece l)) [])
+field_is_end : (t : Bool) (b : ℕ) (l : List ℕ) → t ≡ (cond t true (closed l) && same (cond t [] (b ∷ piece l)) [])
 unfolding same
-is_empty_lem true b l = refl
-is_empty_lem false b l = and_false (closed l)
+field_is_end true b l = refl
+field_is_end false b l = and_false (closed l)
 
 is_cons : (t u : Bool) (b w : ℕ) (l ws : List ℕ) → eqb b w ≡ u → (u ≡ true → t ≡ false) → field_is ws l ≡ (closed l && same (piece l) ws)
     → cond u (field_is ws l) false ≡ (cond t true (closed l) && same (cond t [] (b ∷ piece l)) (w ∷ ws))
@@ -71,14 +71,14 @@ is_cons true false b w l ws e n h = refl
 is_cons false true b w l ws e n h = rw e h
 is_cons false false b w l ws e n h = rw e (and_false (closed l))
 
-field_is_lem : (w l : List ℕ) → letters w ≡ true → field_is w l ≡ (closed l && same (piece l) w)
+field_is_piece : (w l : List ℕ) → letters w ≡ true → field_is w l ≡ (closed l && same (piece l) w)
 unfolding field_is closed piece letters
-field_is_lem [] [] n = refl
-field_is_lem [] (b ∷ l) n = is_empty_lem (ends_field b) b l
-field_is_lem (w ∷ ws) [] n = refl
-field_is_lem (w ∷ ws) (b ∷ l) n =
+field_is_piece [] [] n = refl
+field_is_piece [] (b ∷ l) n = field_is_end (ends_field b) b l
+field_is_piece (w ∷ ws) [] n = refl
+field_is_piece (w ∷ ws) (b ∷ l) n =
     let m = and_both (not (ends_field w)) (letters ws) n in
-    is_cons (ends_field b) (eqb b w) b w l ws refl (λ u. ap ends_field (eqb-true b w u) ∙ not_end (ends_field w) m.0) (field_is_lem ws l m.1)
+    is_cons (ends_field b) (eqb b w) b w l ws refl (λ u. ap ends_field (eqb-true b w u) ∙ not_end (ends_field w) m.0) (field_is_piece ws l m.1)
 
 same_length : (p w : List ℕ) → same p w ≡ true → length p ≡ length w
 unfolding same
@@ -98,11 +98,11 @@ record Hit (w l : List ℕ) : Type 0 where
 
 hit : (w l : List ℕ) → letters w ≡ true → field_is w l ≡ true → Hit w l
 hit w l n e =
-    let m = and_both (closed l) (same (piece l) w) (sym (field_is_lem w l n) ∙ e) in
+    let m = and_both (closed l) (same (piece l) w) (sym (field_is_piece w l n) ∙ e) in
     record { ends = m.0; is = m.1; long = same_length (piece l) w m.1 }
 
 miss : (w l : List ℕ) → letters w ≡ true → field_is w l ≡ false → closed l ≡ true → same (piece l) w ≡ false
-miss w l n e c = rw c at (sym (field_is_lem w l n) ∙ e)
+miss w l n e c = rw c at (sym (field_is_piece w l n) ∙ e)
 
 -- what `word_at` has of the text at its place, after so many words that the field is not
 module _ (l : List ℕ) (at : ℕ) where

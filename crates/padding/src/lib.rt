@@ -1,4 +1,4 @@
-// A kit of n kinds as one of 12, with weights in the place of costs; specs/Padded.antt says that its finished table is the same.
+// A kit of n kinds as one of 12, with weights in the place of costs; proofs/Padded.antt says that its finished table is the same.
 #![tactic(auto)]
 
 ghost use Rattle.std.specs.Prelude.{◌≡◌, map, ◌+◌, ◌*◌, ◌≤◌, ◌<◌, min, length, get_or, take};
@@ -113,8 +113,8 @@ pub fn resize_rows(n: usize, flat: &[u16], rows: usize, m: usize, out: &mut [u16
 // A sheet of n counts a side laid in a table of zeros as one of 12.
 pub fn widen_swaps(n: usize, swaps: &[u16], count: usize, out: &mut [u16])
     requires { (n ≤ most_kinds) × (count * (2 * n) ≤ length swaps.now) × (count * (2 * most_kinds) ≤ length out.old) × (out.old ≡ zeros (length out.old)) }
-    ensures out_after { out.new ≡ filled (length out.old) (map (widen_row n) (table_of n swaps.now count)) }
-    ensures count_after { numbered (swap_at most_kinds out.new) 0 count ≡ map (widen_swap n) (numbered (swap_at n swaps.now) 0 count) }
+    ensures widened_rows { out.new ≡ filled (length out.old) (map (widen_row n) (table_of n swaps.now count)) }
+    ensures widened_swaps { numbered (swap_at most_kinds out.new) 0 count ≡ map (widen_swap n) (numbered (swap_at n swaps.now) 0 count) }
 {
     resize_rows(n, swaps, count, Kit::KINDS, out);
 }

@@ -26,7 +26,7 @@ use Rattle.settle.specs.Call.{row_test, tests}
 use Rattle.complete.specs.declared.Completed.{Completed}
 use Rattle.complete.specs.declared.Completed.TheVariants.{Rows, Refused}
 use Rattle.complete.specs.Call.{swap_tests, input_tests, IsFinished, room_test, tests as completeTests, Accepted, Completing}
-use Rattle.complete.specs.Passed.{Fit, fit_of, fine_kit, table_of_lem}
+use Rattle.complete.specs.Passed.{Fit, fit_of, fine_kit, table_lent}
 
 -- ---- no refusal of complete answers with a number of rows
 
@@ -83,7 +83,7 @@ module _ {n bound : ℕ} {sizes : List ℕ} {costs : List ℤ} {swaps rules : Li
   -- ---- what settle tests of such a table holds
 
   rules_lent : Lent n 256 rules
-  rules_lent = table_of_lem n bound sizes costs swaps rules hold.0
+  rules_lent = table_lent n bound sizes costs swaps rules hold.0
 
   few : length T ≤ rows_lent n rules
   few = hold.1.0 T accepted.1

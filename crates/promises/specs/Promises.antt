@@ -3,7 +3,7 @@
 --     settled_first       demand 3: settle is done, and leaves the first load in the cost order of all that the sheet's own swaps reach
 --     any_sequence        demand 3: applying rows while any fits, in whatever sequence, ends at that load
 --     joined              demand 3: settling each, joining and settling gives what joining and settling gives
---     one-..              each call: two outcomes that its contract allows are the same
+--     one_..              each call: two outcomes that its contract allows are the same
 -- Assumes nothing.
 use Rattle.std.specs.Prelude.{ℕ, ◌+◌, ◌≤◌, ◌≡◌, List, length, ℤ}
 use Rattle.std.proofs.Common.{sym, ◌∙◌, arith}

@@ -1,3 +1,2 @@
+// What the calls promise together, over their contracts: definitions and theorems only.
 #![tactic(auto)]
-
-// What the calls promise together, over their contracts: specs only.

@@ -25,7 +25,7 @@ use Rattle.records.specs.Lines.{Pieces, after, ask, all, within, kit_of, kit_lin
 use Rattle.records.specs.Steps.{Stored, cost_from, sides_step}
 use Rattle.terms.specs.Decides.{Decides}
 use Rattle.records.proofs.Stores.{false_true}
-use Rattle.records.proofs.Codes.{clash, Opened, opened, refused, shut, plain_line, cost_line_lem, all_cap, caps_off, code, all_code, codes_off}
+use Rattle.records.proofs.Codes.{clash, Opened, opened, refused, shut, plain_line, cost_codes, all_cap, caps_off, code, all_code, codes_off}
 
 -- the first n of a row of which n were read
 pub front : {A : Type 0} (n : ℕ) (xs ys : List A) → length xs ≡ n → take n (xs ++ ys) ≡ xs
@@ -124,10 +124,10 @@ module _ (k n : ℕ) (ps : Pieces) (r : Step) (out s : List ℕ) (long : k ≡ n
   costs_said = ap (λ (m : ℕ). read_line 3 (shaped 2 (code_of true) m) ps) (sym long) ∙ said
 
   pub costs_shut : ((next : ℕ) → r ≡ On next → ⊥) → cost_line n ps ≡ wrong BadLine 3
-  costs_shut h = ap (λ (g : Got (List ℤ × Pieces)). after g (λ r. ask (all cost_fine r.0) Cost 3 (fine r))) (shut code 3 (shaped 2 cost_of n (first ps)) (rest ps) r out s (sym (cost_line_lem 3 2 n ps) ∙ costs_said) h)
+  costs_shut h = ap (λ (g : Got (List ℤ × Pieces)). after g (λ r. ask (all cost_fine r.0) Cost 3 (fine r))) (shut code 3 (shaped 2 cost_of n (first ps)) (rest ps) r out s (sym (cost_codes 3 2 n ps) ∙ costs_said) h)
 
   pub costs_open : (next : ℕ) → r ≡ On next → Opened code Costs out (split 10 (drop next s))
-  costs_open next e = opened code Costs out (split 10 (drop next s)) (sym (cost_line_lem 3 2 n ps) ∙ (costs_said ∙ ap (λ (q : Step). step_got 3 q out s) e))
+  costs_open next e = opened code Costs out (split 10 (drop next s)) (sym (cost_codes 3 2 n ps) ∙ (costs_said ∙ ap (λ (q : Step). step_got 3 q out s) e))
 
 module _ (n : ℕ) (ps : Pieces) (row : List ℕ) (q : Pieces) (o : Opened code (read_line 3 (shaped 2 cost_of n) ps) row q) (k : List ℕ) (table : List ℤ) (e : k ≡ row) (r : Bool) (h : r ≡ all (within 9000000 11000000) k) where
   costs_read : cost_line n ps ≡ ask (all cost_fine o.numbers) Cost 3 (fine (o.numbers, q))

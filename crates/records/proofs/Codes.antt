@@ -176,8 +176,8 @@ cost_code (b ∷ p) = go (eqb b 45)
     go true = less_cost (number_of p)
     go false = more_cost (number_of (b ∷ p))
 
-pub cost_line_lem : (at w k : ℕ) (ps : Pieces) → read_line at (shaped w (code_of true) k) ps ≡ map_g code (read_line at (shaped w cost_of k) ps)
-cost_line_lem = map_line code cost_of (code_of true) cost_code
+pub cost_codes : (at w k : ℕ) (ps : Pieces) → read_line at (shaped w (code_of true) k) ps ≡ map_g code (read_line at (shaped w cost_of k) ps)
+cost_codes = map_line code cost_of (code_of true) cost_code
 
 and_true : (t : Bool) → (t && true) ≡ t
 and_true true = refl

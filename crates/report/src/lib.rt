@@ -12,8 +12,8 @@ use terms::Refusal;
 
 // The line of row r of a flat rule table.
 fn rule_at(out: &mut [u8], at: usize, n: usize, sizes: &[u16], rules: &[u16], r: usize) -> usize
-    requires sizes_len { (length sizes.now ≡ n) × (n ≤ most_kinds) × (r * (2 * n) + 2 * n ≤ length rules.now) }
-    requires row_most_in_bounds { at + row_most ≤ length out.old }
+    requires lengths { (length sizes.now ≡ n) × (n ≤ most_kinds) × (r * (2 * n) + 2 * n ≤ length rules.now) }
+    requires has_room { at + row_most ≤ length out.old }
     ensures stored { Stored (row_line sizes.now (row_at n rules.now r)) at out.old result out.new }
     ensures upper_bound { result ≤ at + row_most }
 {
@@ -32,8 +32,8 @@ pub fn rule_lines(
     rules: &[u16],
     rows: usize,
 ) -> usize
-    requires sizes_len { (length sizes.now ≡ n) × (n ≤ most_kinds) × (rows * (2 * n) ≤ length rules.now) }
-    requires row_most_in_bounds { at + rows * row_most ≤ length out.old }
+    requires lengths { (length sizes.now ≡ n) × (n ≤ most_kinds) × (rows * (2 * n) ≤ length rules.now) }
+    requires has_room { at + rows * row_most ≤ length out.old }
     ensures stored { Stored (rule_lines sizes.now (table_of n rules.now rows)) at out.old result out.new }
     ensures upper_bound { result ≤ at + rows * row_most }
 {
@@ -60,7 +60,7 @@ fn load_line(
     line: usize,
 ) -> usize
     requires ready { Ready n bound sizes.now costs.now rules.now rows × (length load.old ≡ n) }
-    requires load_most_in_bounds { at + load_most ≤ length out.old }
+    requires has_room { at + load_most ≤ length out.old }
     ensures written { Written (LoadLine bound sizes.now (table_of n rules.now rows) line load.old) at out.old result out.new }
     ensures upper_bound { result ≤ at + load_most }
 {
@@ -86,7 +86,7 @@ pub fn load_lines(
     first: usize,
 ) -> usize
     requires ready { Ready n bound sizes.now costs.now rules.now rows × (count * n ≤ length loads.old) × (first + count < 2 ^ 64) }
-    requires load_most_in_bounds { at + count * load_most ≤ length out.old }
+    requires has_room { at + count * load_most ≤ length out.old }
     ensures written { Written (Lines (λ i. LoadLine bound sizes.now (table_of n rules.now rows) (first + i) (load_at n loads.old i)) count) at out.old result out.new }
     ensures upper_bound { result ≤ at + count * load_most }
 {

@@ -141,7 +141,7 @@ pub fn settle_proper(
     load: &mut [u16],
 )
     requires ready { Ready n bound sizes.now costs.now rules.now rows }
-    requires load_len { (length load.old ≡ n) × (grade sizes.now load.old ≤ bound) }
+    requires load_fine { (length load.old ≡ n) × (grade sizes.now load.old ≤ bound) }
     ensures { Settles (table_of n rules.now rows) load.old load.new }
 {
     let mut r = loads::first_fit(n, rules, rows, load);

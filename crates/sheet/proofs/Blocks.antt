@@ -105,12 +105,12 @@ unfolding load_lines
 cut_loads n used so p e = rw (e, add-zero)
 
 module _ (n : ℕ) (sizes : List ℕ) (used : ℕ) (so : List ℕ) where
-  swap_line_lem : (ps : Pieces) → is_word 3 (word_of (first (split 9 (first ps)))) ≡ true → (rest ps ≡ [] → is_empty (first ps) ≡ false) → (ps ≡ [] → ⊥)
+  swap_line_turn : (ps : Pieces) → is_word 3 (word_of (first (split 9 (first ps)))) ≡ true → (rest ps ≡ [] → is_empty (first ps) ≡ false) → (ps ≡ [] → ⊥)
       → swap_lines n sizes used so ps ≡ after (swap_line (4 + used) n sizes used ps) (λ r. swap_lines n sizes (used + 1) (so ++ r.0) r.1)
   unfolding swap_lines
-  swap_line_lem [] w h k = absurd (k refl)
-  swap_line_lem (p ∷ []) w h k = cut_loads n used so p (h refl)
-  swap_line_lem (l ∷ (m ∷ ls)) w h k =
+  swap_line_turn [] w h k = absurd (k refl)
+  swap_line_turn (p ∷ []) w h k = cut_loads n used so p (h refl)
+  swap_line_turn (l ∷ (m ∷ ls)) w h k =
       ap (λ (t : Bool). cond t (after (swap_line (4 + used) n sizes used (l ∷ (m ∷ ls))) (λ r. swap_lines n sizes (used + 1) (so ++ r.0) (m ∷ ls))) (loads_after n used so (l ∷ (m ∷ ls)))) w
       ∙ from_either (m ∷ ls) (swap_line (4 + used) n sizes used (l ∷ (m ∷ ls))) (λ v q. swap_lines n sizes (used + 1) (so ++ v) q) (leaves_swap (4 + used) n sizes used (l ∷ (m ∷ ls)))
 
@@ -201,7 +201,7 @@ module _ (n : ℕ) (sizes : List ℕ) (used at : ℕ) (s before table : List ℕ
   swap_said : is_other r ≡ false → swap_lines n sizes used So (split 10 (drop at s)) ≡ after (step_got (4 + used) r Row s) (λ x. swap_lines n sizes (used + 1) (So ++ x.0) x.1)
   swap_said o =
       let b : begun_in 3 (drop at s) ≡ true = not_begun (begun_in 3 (drop at s)) (sym o ∙ rec.other) in
-      swap_line_lem n sizes used So (split 10 (drop at s))
+      swap_line_turn n sizes used So (split 10 (drop at s))
       (ap (λ (p : List ℕ). is_word 3 (word_of p)) (begins (drop at s)).field ∙ and_right (closed (drop at s)) _ b)
       (some_text s at h) (some_pieces (drop at s))
       ∙ ap (λ (g : Got (List ℕ × Pieces)). after g (λ x. swap_lines n sizes (used + 1) (So ++ x.0) x.1)) rec.is

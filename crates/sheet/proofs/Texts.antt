@@ -159,13 +159,13 @@ pad none k long l h e =
     let z : length l - k ≡ long - length (take k l) = ap (λ (m : ℕ). m - k) e ∙ ap (λ (m : ℕ). long - m) (sym (length-take-le k l h)) in
     ap (λ (m : ℕ). take k l ++ replicate m none) z
 
-result_of_lem : (a b : Read) (z z' : List ℕ) (k k' : List ℤ) (w w' l l' : List ℕ) → a ≡ b → z ≡ z' → k ≡ k' → w ≡ w' → l ≡ l' → ◌≡◌ {A = Result} (record { answer = a; sizes = z; costs = k; swaps = w; loads = l }) (record { answer = b; sizes = z'; costs = k'; swaps = w'; loads = l' })
-result_of_lem a b z z' k k' w w' l l' p q s t u = cc
+result_same : (a b : Read) (z z' : List ℕ) (k k' : List ℤ) (w w' l l' : List ℕ) → a ≡ b → z ≡ z' → k ≡ k' → w ≡ w' → l ≡ l' → ◌≡◌ {A = Result} (record { answer = a; sizes = z; costs = k; swaps = w; loads = l }) (record { answer = b; sizes = z'; costs = k'; swaps = w'; loads = l' })
+result_same a b z z' k k' w w' l l' p q s t u = cc
 
 -- a refusal leaves every buffer 0
 pub refused_is : (reason : Refusal) (line : ℕ) (z : List ℕ) (k : List ℤ) (w l : List ℕ) → length z ≡ 12 → length k ≡ 12 → length w ≡ 1536 → length l ≡ 12288 → (now : Result) → Ended (read.Refused reason line) z k w l now → now ≡ cleared reason line
 refused_is reason line z k w l lz lk lw ll now e =
-    result_of_lem _ _ _ _ _ _ _ _ _ _ e.answer
+    result_same _ _ _ _ _ _ _ _ _ _ e.answer
     (e.sizes ∙ ap (λ (m : ℕ). replicate m 0) (sub-zero (length z) ∙ lz))
     (e.costs ∙ ap (λ (m : ℕ). replicate m (pos 0)) (sub-zero (length k) ∙ lk))
     (e.swaps ∙ ap (λ (m : ℕ). replicate m 0) (sub-zero (length w) ∙ lw))
@@ -179,7 +179,7 @@ module _ (r : Read) (z : List ℕ) (k : List ℤ) (w l : List ℕ) (lz : length 
       go : (r : Read) → ReadWithin r → Ended r z k w l now → sheet_of s ≡ read_got r z k w l → now ≡ result_of (sheet_of s)
       go (read.Sheet c) h e f =
           let n = c.kinds in
-          result_of_lem _ _ _ _ _ _ _ _ _ _ e.answer
+          result_same _ _ _ _ _ _ _ _ _ _ e.answer
           (e.sizes ∙ pad 0 n 12 z (omega arith) lz)
           (e.costs ∙ pad (pos 0) n 12 k (omega arith) lk)
           (e.swaps ∙ pad 0 (c.swaps * (2 * n)) 1536 w (omega (arith, swaps_in n c.swaps h.0 h.1)) lw)

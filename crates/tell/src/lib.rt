@@ -1,6 +1,6 @@
+// Numbers and loads written by the programs that the gate runs.
 #![tactic(auto)]
 
-// Numbers and loads written by the programs that the gate runs.
 // The standard output.
 pub const STDOUT: i32 = 1;
 

@@ -38,8 +38,8 @@ pub fn ends_field(b: u8) -> bool
 
 // One digit more, held at CAP.
 fn more_by(value: u32, b: u8) -> u32
-    requires value_le_cap { value ≤ cap }
-    requires b_value { is_digit b ≡ true }
+    requires capped { value ≤ cap }
+    requires digit { is_digit b ≡ true }
     ensures { result ≡ more value b }
 {
     let next = value * 10 + (b as u32 - 48);

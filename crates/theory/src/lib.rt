@@ -1,3 +1,2 @@
+// The theory of finished tables over an abstract kit of loads: definitions and theorems only.
 #![tactic(auto)]
-
-// The theory of finished tables over an abstract kit of loads: specs only.

@@ -26,7 +26,7 @@ use Rattle.bridge.specs.Instance.{Load}
 use Rattle.bridge.specs.Rows.{plain_table, IsSwap, IsSheet, loads_sheet, loads_even}
 use Rattle.bridge.specs.Tables.{ByCounts, by_counts}
 use Rattle.bridge.specs.Settling.{settles_down}
-use Rattle.bridge.specs.Regular.{IsKit, kit_of_lem, ReachOf, reaches_alike}
+use Rattle.bridge.specs.Regular.{IsKit, loads_kit, ReachOf, reaches_alike}
 use Rattle.bridge.specs.Sheet.{sheet_finished}
 use Rattle.worked.specs.Examples.{Given, Asked, Asked.complete, Asked.settle, Answer, Answer.rows, Answer.done, Answer.refused, Example, Accepted, Completes, SettlesBy, Says, Holds}
 
@@ -127,7 +127,7 @@ module _ (g : Given) (ok : Accepted g) where
   sheet = all_in (IsSwap g.kinds g.sizes) (sheet_of g.kinds g.swaps) ok.of_swaps
 
   abbrev pub K : Kit
-  K = kit_of_lem g.costs kit
+  K = loads_kit g.costs kit
 
   -- the finished table, by completion
   abbrev pub Tabled : Type 0

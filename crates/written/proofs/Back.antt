@@ -14,7 +14,7 @@ use Rattle.records.specs.Lines.{Pieces, after, counts_line, swap_line}
 use Rattle.print.specs.Lines.{digits, each}
 use Rattle.sheet.specs.Sheet.{Records, load_lines, loads_after, swap_lines, sheet_of}
 use Rattle.written.specs.Write.{Content, LoadFine, SwapFine, Within, sides, swap_text, load_text, text_of, sheet_for}
-use Rattle.written.specs.Lines.{body, counted, swap_word_lem, load_word_lem, word_first}
+use Rattle.written.specs.Lines.{body, counted, swap_is_word, load_is_word, word_first}
 use Rattle.written.specs.Back.{recorded, load_turn, swap_turn}
 use Rattle.written.proofs.Lines.{line_split, kit_back, size_back, costs_back, counts_back, swap_back}
 
@@ -23,11 +23,11 @@ use Rattle.written.proofs.Lines.{line_split, kit_back, size_back, costs_back, co
 module _ (n from : ℕ) where
   load_step : (used : ℕ) (so x r : List ℕ) → LoadFine n x → used < most_loads → load_lines n from used so (split 10 (load_text x ++ r)) ≡ load_lines n from (used + 1) (so ++ x) (split 10 r)
   load_step used so x r h l =
-      let parts = line_split counted load_word_lem x r in
+      let parts = line_split counted load_is_word x r in
       ap (load_lines n from used so) parts
       ∙ load_turn n from used so (body digits load_word x) (split 10 r) (some_piece 10 r)
       ∙ ap (λ (g : Got (List ℕ × Pieces)). after g (λ q. load_lines n from (used + 1) (so ++ q.0) (split 10 r)))
-      (ap (counts_line (from + used) 4 n used most_loads) (sym parts) ∙ counts_back load_word_lem (from + used) n used most_loads x r h.0 l h.1)
+      (ap (counts_line (from + used) 4 n used most_loads) (sym parts) ∙ counts_back load_is_word (from + used) n used most_loads x r h.0 l h.1)
 
   loads_back : (used : ℕ) (so : List ℕ) (loads : List (List ℕ)) → All (LoadFine n) loads → used + length loads ≤ most_loads
       → load_lines n from used so (split 10 (each load_text loads)) ≡ fine (recorded (used + length loads) (so ++ each (λ x. x) loads))
@@ -43,12 +43,12 @@ module _ (n from : ℕ) where
 module _ (n : ℕ) (sizes : List ℕ) where
   swap_step : (used : ℕ) (so : List ℕ) (s : Swap) (r : List ℕ) → SwapFine n sizes s → used < most_swaps → swap_lines n sizes used so (split 10 (swap_text s ++ r)) ≡ swap_lines n sizes (used + 1) (so ++ sides s) (split 10 r)
   swap_step used so s r h l =
-      let parts = line_split counted swap_word_lem (sides s) r in
+      let parts = line_split counted swap_is_word (sides s) r in
       let l₀ = body digits swap_word (sides s) in
       ap (swap_lines n sizes used so) parts
       ∙ swap_turn n sizes used so l₀ (split 10 r) (some_piece 10 r)
       ∙ ap (λ (w : Option ℕ). cond (is_word 3 w) (after (swap_line (4 + used) n sizes used (l₀ ∷ split 10 r)) (λ q. swap_lines n sizes (used + 1) (so ++ q.0) (split 10 r))) (loads_after n used so (l₀ ∷ split 10 r)))
-      (word_first counted swap_word_lem (sides s))
+      (word_first counted swap_is_word (sides s))
       ∙ ap (λ (g : Got (List ℕ × Pieces)). after g (λ q. swap_lines n sizes (used + 1) (so ++ q.0) (split 10 r)))
       (ap (swap_line (4 + used) n sizes used) (sym parts) ∙ swap_back (4 + used) n sizes used s r h l)
 
@@ -58,12 +58,12 @@ module _ (n : ℕ) (sizes : List ℕ) where
   swaps_end used so [] = refl
   swaps_end used so (x ∷ loads) =
       let r = each load_text loads in
-      let parts = line_split counted load_word_lem x r in
+      let parts = line_split counted load_is_word x r in
       let l₀ = body digits load_word x in
       ap (swap_lines n sizes used so) parts
       ∙ swap_turn n sizes used so l₀ (split 10 r) (some_piece 10 r)
       ∙ ap (λ (w : Option ℕ). cond (is_word 3 w) (after (swap_line (4 + used) n sizes used (l₀ ∷ split 10 r)) (λ q. swap_lines n sizes (used + 1) (so ++ q.0) (split 10 r))) (loads_after n used so (l₀ ∷ split 10 r)))
-      (word_first counted load_word_lem x)
+      (word_first counted load_is_word x)
       ∙ ap (loads_after n used so) (sym parts)
 
   module _ (loads : List (List ℕ)) (h : All (LoadFine n) loads) (few : length loads ≤ most_loads) where

@@ -16,7 +16,7 @@ use Rattle.records.specs.Lines.{Pieces, within, kit_line, size_line, cost_fine, 
 use Rattle.print.specs.Lines.{digits, each}
 use Rattle.written.specs.Write.{SwapFine, line_of, cost_digits, sides, swap_text}
 use Rattle.written.specs.Parts.{all_append, split_at, fields_free}
-use Rattle.written.specs.Lines.{Fields, counted, Word, body, shaped_back, kit_word_lem, size_word_lem, cost_word_lem, swap_word_lem, all_pass, in_range, two_runs}
+use Rattle.written.specs.Lines.{Fields, counted, Word, body, shaped_back, kit_is_word, size_is_word, cost_is_word, swap_is_word, all_pass, in_range, two_runs}
 use Rattle.written.proofs.Spelled.{cost_back, cost_free}
 
 pub priced : Fields cost_of cost_digits
@@ -42,15 +42,15 @@ module _ {A : Type 0} {num : List ℕ → Option A} {spell : A → List ℕ} (f 
 
 pub kit_back : (n b : ℕ) (r : List ℕ) → KindsFine n → BoundFine b → kit_line (split 10 (line_of digits kit_word (n ∷ b ∷ []) ++ r)) ≡ fine (record { kinds = n; bound = b }, split 10 r)
 kit_back n b r h k =
-    rw (line_back counted kit_word_lem (n ∷ b ∷ []) 1 2 r refl, in_range 1 most_kinds n h.0 h.1, in_range 1 most_bound b k.0 k.1)
+    rw (line_back counted kit_is_word (n ∷ b ∷ []) 1 2 r refl, in_range 1 most_kinds n h.0 h.1, in_range 1 most_bound b k.0 k.1)
 
 pub size_back : (n : ℕ) (sizes r : List ℕ) → length sizes ≡ n → All SizeFine sizes → size_line n (split 10 (line_of digits size_word sizes ++ r)) ≡ fine (sizes, split 10 r)
 size_back n sizes r e h =
-    rw (line_back counted size_word_lem sizes 2 n r e, all_pass SizeFine (within 1 most_size) (λ v k. in_range 1 most_size v k.0 k.1) sizes h)
+    rw (line_back counted size_is_word sizes 2 n r e, all_pass SizeFine (within 1 most_size) (λ v k. in_range 1 most_size v k.0 k.1) sizes h)
 
 pub costs_back : (n : ℕ) (costs : List ℤ) (r : List ℕ) → length costs ≡ n → All CostFine costs → cost_line n (split 10 (line_of cost_digits cost_word costs ++ r)) ≡ fine (costs, split 10 r)
 costs_back n costs r e h =
-    rw (line_back priced cost_word_lem costs 3 n r e, all_pass CostFine cost_fine (λ z k. le-leb _ _ k) costs h)
+    rw (line_back priced cost_is_word costs 3 n r e, all_pass CostFine cost_fine (λ z k. le-leb _ _ k) costs h)
 
 pub counts_back : {w : ℕ} {word : List ℕ} → Word w word → (at width used room : ℕ) (values r : List ℕ) → length values ≡ width → used < room → All (λ v. v ≤ most_count) values
     → counts_line at w width used room (split 10 (line_of digits word values ++ r)) ≡ fine (values, split 10 r)
@@ -68,5 +68,5 @@ sides_back at n sizes s ps h =
 
 pub swap_back : (at n : ℕ) (sizes : List ℕ) (used : ℕ) (s : Swap) (r : List ℕ) → SwapFine n sizes s → used < most_swaps → swap_line at n sizes used (split 10 (swap_text s ++ r)) ≡ fine (sides s, split 10 r)
 swap_back at n sizes used s r h l =
-    rw (counts_back swap_word_lem at (2 * n) used most_swaps (sides s) r (omega (arith, length-append s.left s.right, h.left_fine.0, h.right_fine.0)) l (all_append (λ v. v ≤ most_count) s.left s.right h.left_fine.1 h.right_fine.1))
+    rw (counts_back swap_is_word at (2 * n) used most_swaps (sides s) r (omega (arith, length-append s.left s.right, h.left_fine.0, h.right_fine.0)) l (all_append (λ v. v ≤ most_count) s.left s.right h.left_fine.1 h.right_fine.1))
     (sides_back at n sizes s (split 10 r) h)

@@ -54,25 +54,25 @@ module _ {A : Type 0} {num : List ℕ → Option A} {spell : A → List ℕ} (f 
 
 -- ## The five words
 
-pub kit_word_lem : Word 0 kit_word
+pub kit_is_word : Word 0 kit_word
 unfolding word_of same
-kit_word_lem = record { is = refl; no_tab = (refl, (refl, (refl, tt))); no_feed = (refl, (refl, (refl, tt))) }
+kit_is_word = record { is = refl; no_tab = (refl, (refl, (refl, tt))); no_feed = (refl, (refl, (refl, tt))) }
 
-pub size_word_lem : Word 1 size_word
+pub size_is_word : Word 1 size_word
 unfolding word_of same
-size_word_lem = record { is = refl; no_tab = (refl, (refl, (refl, (refl, tt)))); no_feed = (refl, (refl, (refl, (refl, tt)))) }
+size_is_word = record { is = refl; no_tab = (refl, (refl, (refl, (refl, tt)))); no_feed = (refl, (refl, (refl, (refl, tt)))) }
 
-pub cost_word_lem : Word 2 cost_word
+pub cost_is_word : Word 2 cost_word
 unfolding word_of same
-cost_word_lem = record { is = refl; no_tab = (refl, (refl, (refl, (refl, tt)))); no_feed = (refl, (refl, (refl, (refl, tt)))) }
+cost_is_word = record { is = refl; no_tab = (refl, (refl, (refl, (refl, tt)))); no_feed = (refl, (refl, (refl, (refl, tt)))) }
 
-pub swap_word_lem : Word 3 swap_word
+pub swap_is_word : Word 3 swap_word
 unfolding word_of same
-swap_word_lem = record { is = refl; no_tab = (refl, (refl, (refl, (refl, tt)))); no_feed = (refl, (refl, (refl, (refl, tt)))) }
+swap_is_word = record { is = refl; no_tab = (refl, (refl, (refl, (refl, tt)))); no_feed = (refl, (refl, (refl, (refl, tt)))) }
 
-pub load_word_lem : Word 4 load_word
+pub load_is_word : Word 4 load_word
 unfolding word_of same
-load_word_lem = record { is = refl; no_tab = (refl, (refl, (refl, (refl, tt)))); no_feed = (refl, (refl, (refl, (refl, tt)))) }
+load_is_word = record { is = refl; no_tab = (refl, (refl, (refl, (refl, tt)))); no_feed = (refl, (refl, (refl, (refl, tt)))) }
 
 -- ## The tests pass
 

@@ -1,3 +1,2 @@
+// A sheet that is written reads back as what it was written from: definitions and theorems only.
 #![tactic(auto)]
-
-// A sheet that is written reads back as what it was written from: specs only.

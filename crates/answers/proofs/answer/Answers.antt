@@ -22,10 +22,10 @@ pub returns-in-Sheet : goal.returns-in-Sheet
 returns-in-Sheet c =
     let read = c.read_sheet in
     let all = answer_sheet c.args.text.now read.new.sizes read.new.costs read.new.swaps read.new.loads read.ensures c.in-Sheet.is c.sheet_lines.ensures.written in
-    record { written = all; counts_of = written_counts all (omega (arith, c.sheet_lines.ensures.upper_bound, c.requires)) }
+    record { written = all; in_buffer = written_counts all (omega (arith, c.sheet_lines.ensures.upper_bound, c.requires)) }
 
 pub returns-in-Refused : goal.returns-in-Refused
 returns-in-Refused c =
     let read = c.read_sheet in
     let all = answer_refused c.args.text.now read.new.sizes read.new.costs read.new.swaps read.new.loads read.ensures c.in-Refused.is c.number.ensures c.refused_line.ensures.stored in
-    record { written = all; counts_of = written_counts all (omega (arith, c.refused_line.ensures.upper_bound, c.requires)) }
+    record { written = all; in_buffer = written_counts all (omega (arith, c.refused_line.ensures.upper_bound, c.requires)) }

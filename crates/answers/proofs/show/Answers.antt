@@ -8,13 +8,13 @@ pub rule_lines-at-requires : goal.rule_lines-at-requires
 rule_lines-at-requires c =
     let made = c.complete in
     let ready = completing_ready made.ensures c.in-Rows.is in
-    record { sizes_len = (ready.0.sizes_long, ready.0.kinds.1, ready.0.in_use); row_most_in_bounds = omega (arith, c.requires.3, ready.1) }
+    record { lengths = (ready.0.sizes_long, ready.0.kinds.1, ready.0.in_use); has_room = omega (arith, c.requires.3, ready.1) }
 
 pub load_lines-requires : goal.load_lines-requires
 load_lines-requires c =
     let made = c.complete in
     let ready = completing_ready made.ensures c.in-Rows.is in
-    record { ready = (ready.0, c.requires.1, omega (arith, c.requires.0, c.requires.2)); load_most_in_bounds = omega (arith, c.requires.0, c.requires.3, ready.1, c.rule_lines-at.ensures.upper_bound, stored_length c.rule_lines-at.ensures.stored) }
+    record { ready = (ready.0, c.requires.1, omega (arith, c.requires.0, c.requires.2)); has_room = omega (arith, c.requires.0, c.requires.3, ready.1, c.rule_lines-at.ensures.upper_bound, stored_length c.rule_lines-at.ensures.stored) }
 
 pub returns-in-Rows : goal.returns-in-Rows
 returns-in-Rows c =

@@ -6,7 +6,7 @@ use Rattle.laws.specs.Outcome.{AllHold, outcome_map, past, stops}
 use Rattle.complete.specs.declared.Completed.{Completed}
 use Rattle.complete.specs.declared.Completed.TheVariants.{Rows}
 use Rattle.complete.specs.Call.{input_tests, room_test, Accepted}
-use Rattle.complete.specs.Passed.{refused_not_rows, all_passed, fit_of, table_of_lem}
+use Rattle.complete.specs.Passed.{refused_not_rows, all_passed, fit_of, table_lent}
 use Rattle.complete.proofs.complete.Goals as goal
 
 abbrev IsNone : Completed × List ℕ → Type 0
@@ -25,7 +25,7 @@ finish-requires c =
     let held : let a = c.args in AllHold (input_tests a.kit.kinds a.kit.bound a.sizes.now a.costs.now a.swaps.now a.rules.now) = let a = c.args in
     all_passed a.kit.kinds a.kit.bound a.sizes.now a.costs.now a.swaps.now a.rules.now IsNone _ (subst (λ (v : Completed). Outcome IsNone (input_tests a.kit.kinds a.kit.bound a.sizes.now a.costs.now a.swaps.now a.rules.now) (v, a.rules.now)) c.in-Rows.is c.refusal-answer.ensures) in
     let a = c.args in
-    (fit_of a.kit.kinds a.kit.bound a.sizes.now a.costs.now a.swaps.now a.rules.now held, table_of_lem a.kit.kinds a.kit.bound a.sizes.now a.costs.now a.swaps.now a.rules.now held)
+    (fit_of a.kit.kinds a.kit.bound a.sizes.now a.costs.now a.swaps.now a.rules.now held, table_lent a.kit.kinds a.kit.bound a.sizes.now a.costs.now a.swaps.now a.rules.now held)
 
 pub returns : goal.returns
 returns c =

@@ -24,7 +24,7 @@ pub one_grade-grown-requires : goal.one_grade-grown-requires
 one_grade-grown-requires c =
     let s = c.loop-g.invariant in
     let p = c.requires in
-    record { pair_list = ((p.0, s.at p.0), s.list); le_g = (s.some, c.loop-g-test.true, s.roomy, p.1, omega (arith, p.2, s.long), s.due_long, s.mates_long) }
+    record { at_grade = ((p.0, s.at p.0), s.list); has_room = (s.some, c.loop-g-test.true, s.roomy, p.1, omega (arith, p.2, s.long), s.due_long, s.mates_long) }
 
 pub returns-then-room-rows : goal.returns-then-room-rows
 returns-then-room-rows c = grading_full c.requires.1 c.loop-g.invariant c.one_grade-grown.ensures c.if-room-rows.true

@@ -5,7 +5,7 @@ use Rattle.grades.proofs.join_pairs.Goals as goal
 use Rattle.grades.proofs.join_pairs.Goals.{then-due-k+else-room-now, else-due-k}
 
 pub loop-k-init : goal.loop-k-init
-loop-k-init c = pairs_start c.requires.rows_le_room.0
+loop-k-init c = pairs_start c.requires.has_room.0
 
 pub overflow_cast-due : goal.overflow_cast-due
 overflow_cast-due c = omega (arith, c.type_inv.due c.loop-k.k)
@@ -14,7 +14,7 @@ pub overflow_cast-mate : goal.overflow_cast-mate
 overflow_cast-mate c = omega (arith, c.type_inv.mates c.loop-k.k)
 
 pub join_pair-now-requires : goal.join_pair-now-requires
-join_pair-now-requires c = pairs_asked c.loop-k.invariant c.loop-k-test.true c.requires.by_index.3 c.requires.rows_le_room.2 c.if-due-k.true
+join_pair-now-requires c = pairs_asked c.loop-k.invariant c.loop-k-test.true c.requires.listed.3 c.requires.has_room.2 c.if-due-k.true
 
 pub returns-then-room-now : goal.returns-then-room-now
 returns-then-room-now c = pairs_full c.loop-k.invariant c.loop-k-test.true c.if-due-k.true refl refl c.join_pair-now.ensures c.if-room-now.true

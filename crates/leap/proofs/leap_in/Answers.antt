@@ -7,7 +7,7 @@ use lib.ListN.{length, get_or}
 use Rattle.laws.specs.Load.{UpTo, up_to_at}
 use Rattle.laws.specs.Fill.{half, half_all, half_long, half_read, half_more}
 use Rattle.leap.specs.Rounds.{went, wents, Rounds}
-use Rattle.leap.specs.Way.{length_three, three_at, rounds_at}
+use Rattle.leap.specs.Way.{length_three, three_at, rounds_here}
 use Rattle.leap.proofs.leap_in.Goals as goal
 
 -- a turn, where the load is y by now
@@ -21,7 +21,7 @@ module _ (more : ℕ) (h t x : List ℕ) (hl : length h ≡ length x) (tl : leng
       ap (went (more + 1) (get_or h k 0) (get_or t k 0)) now_at ∙ sym (three_at (went (more + 1)) h t x k hl tl l)
 
   taken : (more + 1) * (get_or h k 0 - get_or t k 0) ≤ get_or y k 0
-  taken = omega (arith, now_at, rounds_at more h t x k hl tl l enough, add-mul more 1 (get_or h k 0 - get_or t k 0))
+  taken = omega (arith, now_at, rounds_here more h t x k hl tl l enough, add-mul more 1 (get_or h k 0 - get_or t k 0))
 
   small : went (more + 1) (get_or h k 0) (get_or t k 0) (get_or y k 0) ≤ 65535
   small = subst (λ (v : ℕ). v ≤ 65535) (sym turn_at) (up_to_at 65535 (wents (more + 1) h t x) k up_to_lem)

@@ -11,4 +11,4 @@ pub returns : goal.returns
 returns c =
     let a = c.args in
     let made = c.resize_rows.ensures in
-    let wide = rows_widened a.n (table_of a.n a.swaps.now a.count) c.requires.0 (table_sides a.n a.count a.swaps.now c.requires.1) in record { out_after = made ∙ ap (filled (length a.out.now)) wide; count_after = swaps_widened a.n a.count a.swaps.now _ (ap (λ (l : List ℕ). table_of most_kinds l a.count) made ∙ table_resized a.n most_kinds (length a.out.now) a.swaps.now a.count ∙ wide) }
+    let wide = rows_widened a.n (table_of a.n a.swaps.now a.count) c.requires.0 (table_sides a.n a.count a.swaps.now c.requires.1) in record { widened_rows = made ∙ ap (filled (length a.out.now)) wide; widened_swaps = swaps_widened a.n a.count a.swaps.now _ (ap (λ (l : List ℕ). table_of most_kinds l a.count) made ∙ table_resized a.n most_kinds (length a.out.now) a.swaps.now a.count ∙ wide) }

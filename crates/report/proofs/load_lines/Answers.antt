@@ -46,7 +46,7 @@ pub load_line-next-requires : goal.load_line-next-requires
 load_line-next-requires c =
     let lies : c.loop-i.i * c.args.n + c.args.n ≤ length c.loop-i.loads = rw c.loop-i.invariant.2 (item_in c.args.n c.args.count c.loop-i.i (length c.args.loads.now) c.loop-i-test.true c.requires.ready.1) in
     let l = c.loop-i in
-    record { ready = (c.requires.ready.0, item_long c.args.n l.i l.loads lies); load_most_in_bounds = omega (arith, stored_length l.invariant.3.stored) }
+    record { ready = (c.requires.ready.0, item_long c.args.n l.i l.loads lies); has_room = omega (arith, stored_length l.invariant.3.stored) }
 
 pub overflow_add-i : goal.overflow_add-i
 overflow_add-i c = omega arith

@@ -14,7 +14,7 @@ loop-r-init c = (omega arith, stored_none _ _, omega arith)
 pub rule_at-next-requires : goal.rule_at-next-requires
 rule_at-next-requires c =
     let s = stored_length c.loop-r.invariant.1 in
-    record { sizes_len = (c.requires.sizes_len.0, c.requires.sizes_len.1, row_in c.args.n c.args.rows c.loop-r.r (length c.args.rules.now) (omega arith) c.requires.sizes_len.2); row_most_in_bounds = omega arith }
+    record { lengths = (c.requires.lengths.0, c.requires.lengths.1, row_in c.args.n c.args.rows c.loop-r.r (length c.args.rules.now) (omega arith) c.requires.lengths.2); has_room = omega arith }
 
 pub overflow_add-r : goal.overflow_add-r
 overflow_add-r c = omega arith

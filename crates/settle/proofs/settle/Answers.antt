@@ -23,4 +23,4 @@ settle_proper-requires c =
     let held : AllHold (tests c.args.kit.kinds c.args.kit.bound c.args.sizes.now c.args.costs.now c.args.rules.now c.args.rows c.args.load.now) = all_passed c.args.kit.kinds c.args.kit.bound c.args.sizes.now c.args.costs.now c.args.rules.now c.args.rows c.args.load.now (subst (λ (v : Settled). Outcome (λ o. o.0 ≡ Done) (tests c.args.kit.kinds c.args.kit.bound c.args.sizes.now c.args.costs.now c.args.rules.now c.args.rows c.args.load.now) (v, c.args.load.now)) c.in-Done.is c.refusal-answer.ensures) in
     let fit : Fit c.args.kit.kinds c.args.kit.bound c.args.sizes.now c.args.costs.now c.args.rules.now c.args.rows c.args.load.now = fit_of c.args.kit.kinds c.args.kit.bound c.args.sizes.now c.args.costs.now c.args.rules.now c.args.rows c.args.load.now held in
     let f = fit in
-    record { ready = f.ready; load_len = (f.long, f.small) }
+    record { ready = f.ready; load_fine = (f.long, f.small) }

@@ -9,10 +9,10 @@ use Rattle.settle.specs.Going.{lies, h_long, t_long, h_fits, calm_start, tops_fi
 use Rattle.settle.proofs.settle_proper.Goals as goal
 
 pub first_fit-r-requires : goal.first_fit-r-requires
-first_fit-r-requires c = (c.requires.ready.in_use, c.requires.load_len.0)
+first_fit-r-requires c = (c.requires.ready.in_use, c.requires.load_fine.0)
 
 pub loop-r-init : goal.loop-r-init
-loop-r-init c = record { long = c.requires.load_len.0; small = c.requires.load_len.1; at = c.first_fit-r.ensures; leads = λ y p. p }
+loop-r-init c = record { long = c.requires.load_fine.0; small = c.requires.load_fine.1; at = c.first_fit-r.ensures; leads = λ y p. p }
 
 pub left_of-h-requires : goal.left_of-h-requires
 left_of-h-requires c =
@@ -46,7 +46,7 @@ calm-more-requires c =
     let taken = c.loop-r-test.true in
     let most = c.rounds_of-most in
     let long = loop.invariant.long in
-    record { n_le_most_kinds = (ready.kinds.1, omega (arith, lies a.n a.bound a.sizes.now a.costs.now a.rules.now a.rows ready loop.r taken), h.ensures.1, t.ensures.1, long); by_index = (tops_fit a.n a.bound a.sizes.now a.costs.now a.rules.now a.rows ready a.load.now loop.load loop.r loop.invariant taken h.result.now t.result.now h.ensures.0 t.ensures.0 most.result most.ensures.1, calm_start a.n a.bound a.sizes.now a.costs.now a.rules.now a.rows ready a.load.now loop.load loop.r loop.invariant taken h.result.now t.result.now h.ensures.0 t.ensures.0) }
+    record { lengths = (ready.kinds.1, omega (arith, lies a.n a.bound a.sizes.now a.costs.now a.rules.now a.rows ready loop.r taken), h.ensures.1, t.ensures.1, long); tops_fit = (tops_fit a.n a.bound a.sizes.now a.costs.now a.rules.now a.rows ready a.load.now loop.load loop.r loop.invariant taken h.result.now t.result.now h.ensures.0 t.ensures.0 most.result most.ensures.1, calm_start a.n a.bound a.sizes.now a.costs.now a.rules.now a.rows ready a.load.now loop.load loop.r loop.invariant taken h.result.now t.result.now h.ensures.0 t.ensures.0) }
 
 pub leap_in-requires : goal.leap_in-requires
 leap_in-requires c =
@@ -113,7 +113,7 @@ loop-r-preserved c =
     run_goes a.n a.bound a.sizes.now a.costs.now a.rules.now a.rows ready a.load.now loop.load loop.r loop.invariant c.leap_in.new.x strides c.first_fit-r-in-loop-r.result c.first_fit-r-in-loop-r.ensures
 
 pub shape_of-load : goal.shape_of-load
-shape_of-load c = c.loop-r.invariant.long ∙ sym c.requires.load_len.0
+shape_of-load c = c.loop-r.invariant.long ∙ sym c.requires.load_fine.0
 
 pub returns : goal.returns
 returns c =

@@ -20,7 +20,7 @@ returns-then-not-is_digit c =
     sym (run_bad l.value l.next _ (omega arith) (sym c.ends_field.ensures ∙ c.if-ends_field.false) (sym c.is_digit.ensures ∙ c.if-not-is_digit.true)) ∙ l.invariant.1
 
 pub more_by-value-requires : goal.more_by-value-requires
-more_by-value-requires c = record { value_le_cap = omega arith; b_value = sym c.is_digit.ensures ∙ c.if-not-is_digit.false }
+more_by-value-requires c = record { capped = omega arith; digit = sym c.is_digit.ensures ∙ c.if-not-is_digit.false }
 
 pub overflow_add-next : goal.overflow_add-next
 overflow_add-next c = omega arith
