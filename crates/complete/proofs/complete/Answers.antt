@@ -1,5 +1,6 @@
 use mathlib.Core.Path.{◌≡◌, sym, subst, ◌∙◌}
 use mathlib.Core.List.{List}
+use Rattle.std.proofs.Common.{ℤ}
 use Prim.Native.Nat.{ℕ}
 use Rattle.terms.specs.Outcome.{Outcome}
 use Rattle.laws.specs.Outcome.{AllHold, outcome_map, past, stops}
@@ -12,6 +13,13 @@ use Rattle.complete.proofs.complete.Goals as goal
 abbrev IsNone : Completed × List ℕ → Type 0
 IsNone o = o.0 ≡ Rows 0
 
+-- every test of the input is passed where there is no refusal
+held :
+    (n bound : ℕ) (sizes : List ℕ) (costs : List ℤ) (swaps rules : List ℕ) (v : Completed) (rows : ℕ) → v ≡ Rows rows
+    → Outcome IsNone (input_tests n bound sizes costs swaps rules) (v, rules) → AllHold (input_tests n bound sizes costs swaps rules)
+held n bound sizes costs swaps rules v rows e said =
+    all_passed n bound sizes costs swaps rules IsNone rows (subst (λ (w : Completed). Outcome IsNone (input_tests n bound sizes costs swaps rules) (w, rules)) e said)
+
 pub returns-in_default : goal.returns-in_default
 returns-in_default c =
     let a = c.args in
@@ -22,14 +30,11 @@ returns-in_default c =
 
 pub finish-requires : goal.finish-requires
 finish-requires c =
-    let held : let a = c.args in AllHold (input_tests a.kit.kinds a.kit.bound a.sizes.now a.costs.now a.swaps.now a.rules.now) = let a = c.args in
-    all_passed a.kit.kinds a.kit.bound a.sizes.now a.costs.now a.swaps.now a.rules.now IsNone _ (subst (λ (v : Completed). Outcome IsNone (input_tests a.kit.kinds a.kit.bound a.sizes.now a.costs.now a.swaps.now a.rules.now) (v, a.rules.now)) c.in-Rows.is c.refusal-answer.ensures) in
     let a = c.args in
-    (fit_of a.kit.kinds a.kit.bound a.sizes.now a.costs.now a.swaps.now a.rules.now held, table_lent a.kit.kinds a.kit.bound a.sizes.now a.costs.now a.swaps.now a.rules.now held)
+    let all = held a.kit.kinds a.kit.bound a.sizes.now a.costs.now a.swaps.now a.rules.now _ _ c.in-Rows.is c.refusal-answer.ensures in
+    (fit_of a.kit.kinds a.kit.bound a.sizes.now a.costs.now a.swaps.now a.rules.now all, table_lent a.kit.kinds a.kit.bound a.sizes.now a.costs.now a.swaps.now a.rules.now all)
 
 pub returns : goal.returns
 returns c =
-    let held : let a = c.args in AllHold (input_tests a.kit.kinds a.kit.bound a.sizes.now a.costs.now a.swaps.now a.rules.now) = let a = c.args in
-    all_passed a.kit.kinds a.kit.bound a.sizes.now a.costs.now a.swaps.now a.rules.now IsNone _ (subst (λ (v : Completed). Outcome IsNone (input_tests a.kit.kinds a.kit.bound a.sizes.now a.costs.now a.swaps.now a.rules.now) (v, a.rules.now)) c.in-Rows.is c.refusal-answer.ensures) in
     let a = c.args in
-    past (Accepted a.kit.kinds a.kit.bound a.sizes.now a.costs.now a.swaps.now a.rules.now) (input_tests a.kit.kinds a.kit.bound a.sizes.now a.costs.now a.swaps.now a.rules.now) (room_test a.kit.kinds a.kit.bound a.sizes.now a.costs.now a.swaps.now a.rules.now) _ held c.finish.ensures
+    past (Accepted a.kit.kinds a.kit.bound a.sizes.now a.costs.now a.swaps.now a.rules.now) (input_tests a.kit.kinds a.kit.bound a.sizes.now a.costs.now a.swaps.now a.rules.now) (room_test a.kit.kinds a.kit.bound a.sizes.now a.costs.now a.swaps.now a.rules.now) _ (held a.kit.kinds a.kit.bound a.sizes.now a.costs.now a.swaps.now a.rules.now _ _ c.in-Rows.is c.refusal-answer.ensures) c.finish.ensures

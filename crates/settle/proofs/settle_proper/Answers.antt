@@ -1,12 +1,23 @@
-use mathlib.Core.Path.{sym, subst, ◌∙◌}
+use Rattle.std.proofs.Common.{ℤ}
+use mathlib.Core.Path.{◌≡◌, sym, subst, ◌∙◌}
 use mathlib.Core.List.{List}
-use Prim.Native.Nat.{ℕ}
+use Prim.Native.Nat.{ℕ, ◌+◌, ◌<◌, ◌≤◌}
 use native.Mathlib.Omega.{arith}
-use Rattle.terms.specs.Flat.{table_of}
+use Rattle.terms.specs.Flat.{left_at, right_at, table_of}
+use Rattle.leap.specs.Rounds.{wents, Rounds, Calm}
 use Rattle.leap.specs.Way.{rounds_fewer}
 use Rattle.laws.specs.Strides.{Strides}
-use Rattle.settle.specs.Going.{lies, h_long, t_long, h_fits, calm_start, tops_fit, leap_fits, leap_strides, run_ends, run_long, run_falls, run_goes}
+use Rattle.settle.specs.Ready.{Ready}
+use Rattle.settle.specs.Going.{Going, lies, h_long, t_long, h_fits, calm_start, tops_fit, leap_fits, leap_strides, run_ends, run_long, run_falls, run_goes}
 use Rattle.settle.proofs.settle_proper.Goals as goal
+
+-- what the leap left is so many strides from what the load was
+leapt :
+    {n bound : ℕ} {sizes : List ℕ} {costs : List ℤ} {rules : List ℕ} {rows : ℕ} {x₀ x : List ℕ} {r : ℕ} {h t y : List ℕ} (most rest : ℕ) → Ready n bound sizes costs rules rows → Going n bound sizes rules rows x₀ x r
+    → r < rows → h ≡ left_at n rules r → t ≡ right_at n rules r → rest ≤ most → Rounds most h t x → Calm n rules r h t x rest → y ≡ wents (rest + 1) h t x
+    → Strides (table_of n rules rows) x y
+leapt {n} {bound} {sizes} {costs} {rules} {rows} {x₀} {x} {r} {h} {t} most rest ready going taken is-h is-t fewer rounds calm e =
+    subst (λ (z : List ℕ). Strides (table_of n rules rows) x z) (sym e) (leap_strides n bound sizes costs rules rows ready x₀ x r going taken h t is-h is-t rest (rounds_fewer most rest h t x fewer rounds) calm)
 
 pub first_fit-r-requires : goal.first_fit-r-requires
 first_fit-r-requires c = (c.requires.ready.in_use, c.requires.load_fine.0)
@@ -63,16 +74,7 @@ leap_in-requires c =
 
 pub first_fit-r-requires-in-loop-r : goal.first_fit-r-requires-in-loop-r
 first_fit-r-requires-in-loop-r c =
-    let strides : let a = c.args in Strides (table_of a.n a.rules.now a.rows) c.loop-r.load c.leap_in.new.x = let a = c.args in
-    let ready = c.requires.ready in
-    let loop = c.loop-r in
-    let h = c.left_of-h in
-    let t = c.right_of-t in
-    let taken = c.loop-r-test.true in
-    let most = c.rounds_of-most in
-    let more = c.calm-more in
-    let enough = rounds_fewer most.result more.result h.result.now t.result.now loop.load more.ensures.0 most.ensures.1 in
-    subst (λ (y : List ℕ). Strides (table_of a.n a.rules.now a.rows) loop.load y) (sym c.leap_in.ensures) (leap_strides a.n a.bound a.sizes.now a.costs.now a.rules.now a.rows ready a.load.now loop.load loop.r loop.invariant taken h.result.now t.result.now h.ensures.0 t.ensures.0 more.result enough more.ensures.1) in
+    let strides = leapt c.rounds_of-most.result c.calm-more.result c.requires.ready c.loop-r.invariant c.loop-r-test.true c.left_of-h.ensures.0 c.right_of-t.ensures.0 c.calm-more.ensures.0 c.rounds_of-most.ensures.1 c.calm-more.ensures.1 c.leap_in.ensures in
     let a = c.args in
     let ready = c.requires.ready in
     let loop = c.loop-r in
@@ -80,16 +82,7 @@ first_fit-r-requires-in-loop-r c =
 
 pub loop-r-smaller : goal.loop-r-smaller
 loop-r-smaller c =
-    let strides : let a = c.args in Strides (table_of a.n a.rules.now a.rows) c.loop-r.load c.leap_in.new.x = let a = c.args in
-    let ready = c.requires.ready in
-    let loop = c.loop-r in
-    let h = c.left_of-h in
-    let t = c.right_of-t in
-    let taken = c.loop-r-test.true in
-    let most = c.rounds_of-most in
-    let more = c.calm-more in
-    let enough = rounds_fewer most.result more.result h.result.now t.result.now loop.load more.ensures.0 most.ensures.1 in
-    subst (λ (y : List ℕ). Strides (table_of a.n a.rules.now a.rows) loop.load y) (sym c.leap_in.ensures) (leap_strides a.n a.bound a.sizes.now a.costs.now a.rules.now a.rows ready a.load.now loop.load loop.r loop.invariant taken h.result.now t.result.now h.ensures.0 t.ensures.0 more.result enough more.ensures.1) in
+    let strides = leapt c.rounds_of-most.result c.calm-more.result c.requires.ready c.loop-r.invariant c.loop-r-test.true c.left_of-h.ensures.0 c.right_of-t.ensures.0 c.calm-more.ensures.0 c.rounds_of-most.ensures.1 c.calm-more.ensures.1 c.leap_in.ensures in
     let a = c.args in
     let ready = c.requires.ready in
     let loop = c.loop-r in
@@ -97,16 +90,7 @@ loop-r-smaller c =
 
 pub loop-r-preserved : goal.loop-r-preserved
 loop-r-preserved c =
-    let strides : let a = c.args in Strides (table_of a.n a.rules.now a.rows) c.loop-r.load c.leap_in.new.x = let a = c.args in
-    let ready = c.requires.ready in
-    let loop = c.loop-r in
-    let h = c.left_of-h in
-    let t = c.right_of-t in
-    let taken = c.loop-r-test.true in
-    let most = c.rounds_of-most in
-    let more = c.calm-more in
-    let enough = rounds_fewer most.result more.result h.result.now t.result.now loop.load more.ensures.0 most.ensures.1 in
-    subst (λ (y : List ℕ). Strides (table_of a.n a.rules.now a.rows) loop.load y) (sym c.leap_in.ensures) (leap_strides a.n a.bound a.sizes.now a.costs.now a.rules.now a.rows ready a.load.now loop.load loop.r loop.invariant taken h.result.now t.result.now h.ensures.0 t.ensures.0 more.result enough more.ensures.1) in
+    let strides = leapt c.rounds_of-most.result c.calm-more.result c.requires.ready c.loop-r.invariant c.loop-r-test.true c.left_of-h.ensures.0 c.right_of-t.ensures.0 c.calm-more.ensures.0 c.rounds_of-most.ensures.1 c.calm-more.ensures.1 c.leap_in.ensures in
     let a = c.args in
     let ready = c.requires.ready in
     let loop = c.loop-r in
