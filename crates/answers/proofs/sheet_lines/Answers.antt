@@ -10,7 +10,6 @@ use Rattle.answers.proofs.Writing.{told_sheet}
 use Rattle.answers.proofs.sheet_lines.Goals as goal
 
 -- the records in use lie within the buffers
-
 used : {kinds swaps : ℕ} → swaps ≤ 64 → kinds ≤ 12 → swaps * (2 * kinds) ≤ 1536
 used {kinds} s k =
     let two : 2 * kinds ≤ 24 = omega arith in

@@ -5,7 +5,6 @@ use native.Mathlib.Omega.{arith}
 use Rattle.compare.proofs.earlier.Goals as goal
 
 -- a pointer, by its offset
-
 offset : (a : ℕ) {b c : ℕ} → b ≡ c → ◌≡◌ {A = ℕ × ℕ} (a, b) (a, c)
 offset a e = λ i. (a, e i)
 

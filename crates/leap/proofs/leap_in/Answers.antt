@@ -11,7 +11,6 @@ use Rattle.leap.specs.Way.{length_three, three_at, rounds_here}
 use Rattle.leap.proofs.leap_in.Goals as goal
 
 -- a turn, where the load is y by now
-
 module _ (more : ℕ) (h t x : List ℕ) (hl : length h ≡ length x) (tl : length t ≡ length x) (enough : Rounds more h t x) (up_to_lem : UpTo 65535 (wents (more + 1) h t x)) (y : List ℕ) (k : ℕ) (l : k < length x) (e : y ≡ half (wents (more + 1) h t x) x k) where
   now_at : get_or y k 0 ≡ get_or x k 0
   now_at = ap (λ (z : List ℕ). get_or z k 0) e ∙ half_read (wents (more + 1) h t x) x k (length_three (went (more + 1)) h t x hl tl) l

@@ -3,8 +3,6 @@ use native.Mathlib.Omega.{arith}
 use Rattle.lines.proofs.Reading as reading
 use Rattle.lines.proofs.spelled.Goals as goal
 
--- `lines::spelled` meets its contract. The rest of the word and the rest of the text say of each other what the whole word and the text at the place do.
-
 pub loop-i-init : goal.loop-i-init
 loop-i-init c = (omega arith, refl)
 

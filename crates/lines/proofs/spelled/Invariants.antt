@@ -1,3 +1,4 @@
+-- `lines::spelled` meets its contract. The rest of the word and the rest of the text say of each other what the whole word and the text at the place do.
 use Prim.Native.Nat.{◌≤◌, ◌-◌}
 use mathlib.Core.Path.{◌≡◌}
 use lib.ListN.{length, drop}

@@ -11,7 +11,6 @@ use Rattle.laws.specs.Fill.{half, half_all, half_long, half_read, half_more}
 use Rattle.loads.proofs.exchange_in.Goals as goal
 
 -- what a turn reads and makes, where the load is y by now
-
 module _ (h t x : List ℕ) (fit : Fits h x) (long : length t ≡ length x) (y : List ℕ) (k : ℕ) (l : k < length x) (e : y ≡ half (exchange h t x) x k) where
   now_at : get_or y k 0 ≡ get_or x k 0
   now_at = ap (λ (z : List ℕ). get_or z k 0) e ∙ half_read (exchange h t x) x k (exchange_long h t x fit long) l

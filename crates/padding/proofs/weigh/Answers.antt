@@ -14,7 +14,6 @@ use Rattle.padding.proofs.Weights.{weight_whole, weight_room}
 use Rattle.padding.proofs.weigh.Goals as goal
 
 -- the sum, as the machine has it
-
 module _ (s : ℕ) (c : ℤ) (size : SizeFine s) (fine : CostFine c) (hc : SFits w32 c) where
   abbrev machine : ℤ
   machine = to_z w64 (of_z w64 (to_z w32 (of_z w32 c))) +ℤ to_z w64 (1000000 * s)

@@ -6,8 +6,6 @@ use Rattle.pairs.proofs.Entering.{picked_start, picked_past, picked_more}
 use Rattle.pairs.proofs.candidates.Goals as goal
 use Rattle.pairs.proofs.candidates.Goals.{then-g-bound, else-g-bound}
 
--- The candidates are picked from the rows below i.
-
 pub loop-i-init : goal.loop-i-init
 loop-i-init c = (omega arith, c.requires.1, c.requires.2, picked_start c.args.bound c.args.sizes.now c.args.table.now c.args.j c.args.cand.now c.args.grades.now)
 

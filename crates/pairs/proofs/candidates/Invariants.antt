@@ -1,3 +1,4 @@
+-- The candidates are picked from the rows below i.
 use Prim.Native.Nat.{◌≤◌, ◌-◌}
 use mathlib.Core.Path.{◌≡◌}
 use lib.ListN.{length}

@@ -4,8 +4,6 @@ use Rattle.laws.specs.Walk.{grade_done}
 use Rattle.pairs.proofs.Common.{sum_turn}
 use Rattle.pairs.proofs.common_grade.Goals as goal
 
--- What is left of the sum from i on, added to what was summed, is the grade.
-
 pub overflow_cast-sum : goal.overflow_cast-sum
 overflow_cast-sum c = omega (arith, c.type_inv.sizes c.loop-i.i)
 

@@ -1,3 +1,4 @@
+-- What is left of the sum from i on, added to what was summed, is the grade.
 use Prim.Native.Nat.{◌≤◌, ◌-◌, ◌+◌, ◌*◌}
 use mathlib.Core.Path.{◌≡◌}
 use lib.ListN.{drop}

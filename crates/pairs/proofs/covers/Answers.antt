@@ -7,8 +7,6 @@ use Rattle.pairs.proofs.Common.{long_join, join_at}
 use Rattle.pairs.proofs.covers.Goals as goal
 use Rattle.pairs.proofs.covers.Goals.{then-larger-p, else-larger-p}
 
--- The flag says whether the counts so far were none too large.
-
 pub loop-i-init : goal.loop-i-init
 loop-i-init c = (omega arith, record { onward = λ e w. w; back = λ w. (refl, w) })
 

@@ -1,3 +1,4 @@
+-- The flag says whether the counts so far were none too large.
 use Prim.Native.Nat.{◌≤◌, ◌-◌}
 use Rattle.laws.specs.Load.{join}
 use Rattle.laws.specs.Walk.{FitsSoFar}

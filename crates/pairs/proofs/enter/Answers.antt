@@ -6,8 +6,6 @@ use Rattle.pairs.proofs.Laws.{triangle_room}
 use Rattle.pairs.proofs.Entering.{entering_start, entering_next, entering_end}
 use Rattle.pairs.proofs.enter.Goals as goal
 
--- Each row below j within the bound is still a candidate, or has its pivot.
-
 pub candidates-m-requires : goal.candidates-m-requires
 candidates-m-requires c = (c.requires.0, refl, refl)
 

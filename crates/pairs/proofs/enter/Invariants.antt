@@ -1,3 +1,4 @@
+-- Each row below j within the bound is still a candidate, or has its pivot.
 use Prim.Native.Nat.{◌≤◌}
 use mathlib.Core.Path.{◌≡◌}
 use lib.ListN.{length}

@@ -4,8 +4,6 @@ use native.Mathlib.Omega.{arith}
 use Rattle.pairs.proofs.Laws.{enterable_less}
 use Rattle.pairs.proofs.enter_all.Goals as goal
 
--- The rows below j have been entered.
-
 pub enter-count-requires : goal.enter-count-requires
 enter-count-requires c =
     let loop = c.loop-j in

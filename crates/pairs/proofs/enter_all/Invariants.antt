@@ -1,3 +1,4 @@
+-- The rows below j have been entered.
 use Prim.Native.Nat.{◌≤◌, ◌-◌}
 use mathlib.Core.Path.{◌≡◌}
 use lib.ListN.{length}

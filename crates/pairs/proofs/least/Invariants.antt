@@ -1,3 +1,4 @@
+-- The place is below m.
 use Prim.Native.Nat.{◌≤◌, ◌<◌, ◌-◌}
 use Rattle.pairs.proofs.least.Given as goal
 

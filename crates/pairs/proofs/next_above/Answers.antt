@@ -3,8 +3,6 @@ use native.Mathlib.Omega.{arith}
 use Rattle.pairs.proofs.Laws.{next_above_start}
 use Rattle.pairs.proofs.next_above.Goals as goal
 
--- The least so far, of the grades passed.
-
 pub loop-k-init : goal.loop-k-init
 loop-k-init c = (omega arith, next_above_start c.args.grades.now c.args.g c.args.limit (omega arith))
 

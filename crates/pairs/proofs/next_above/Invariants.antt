@@ -1,3 +1,4 @@
+-- The least so far, of the grades passed.
 use Prim.Native.Nat.{◌≤◌, ◌-◌}
 use Rattle.pairs.specs.Pairs.{NextAbove}
 use Rattle.pairs.proofs.next_above.Given as goal

@@ -1,7 +1,6 @@
+-- The parts that are lent are the heads.
 use native.Mathlib.Omega.{arith}
 use Rattle.pairs.proofs.pair_grade.Goals as goal
-
--- The parts that are lent are the heads.
 
 pub common_grade-requires : goal.common_grade-requires
 common_grade-requires c =

@@ -10,8 +10,6 @@ use Rattle.pairs.proofs.Entering.{unread_put, unread_past, sifted_start, sifted_
 use Rattle.pairs.proofs.sift.Goals as goal
 use Rattle.pairs.proofs.sift.Goals.{then-not-pair_covered, else-not-pair_covered}
 
--- Of the candidates read, those kept stand in front; those from s on stand as they were.
-
 pub loop-s-init : goal.loop-s-init
 loop-s-init c =
     let a = c.args in

@@ -1,3 +1,4 @@
+-- Of the candidates read, those kept stand in front; those from s on stand as they were.
 use Prim.Native.Nat.{◌≤◌, ◌-◌}
 use mathlib.Core.Path.{◌≡◌}
 use lib.ListN.{length}

@@ -17,7 +17,6 @@ use Rattle.settle.specs.Call.{Lengths, row_test, tests}
 use Rattle.settle.proofs.refusal.Goals as goal
 
 -- the last test
-
 abbrev over_bound : ℕ → List ℕ → List ℕ → List (Test (Settled × List ℕ))
 over_bound bound sizes load = must (grade sizes load ≤ bound) (Refused OverBound 0, load) ∷ []
 

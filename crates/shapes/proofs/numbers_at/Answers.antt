@@ -5,8 +5,6 @@ use lib.ListN.{length, drop, length-set}
 use Rattle.shapes.proofs.Turns as turns
 use Rattle.shapes.proofs.numbers_at.Goals as goal
 
--- `shapes::numbers_at` meets its contract. The numbers stored so far stand in front of what the text at the place says.
-
 pub loop-i-init : goal.loop-i-init
 loop-i-init c = (omega arith, refl, rw sub-zero (turns.prepend_none _))
 

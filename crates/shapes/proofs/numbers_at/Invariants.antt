@@ -1,3 +1,4 @@
+-- `shapes::numbers_at` meets its contract. The numbers stored so far stand in front of what the text at the place says.
 use Prim.Native.Nat.{◌≤◌, ◌-◌}
 use mathlib.Core.Path.{◌≡◌}
 use lib.ListN.{length, take, drop}

@@ -8,8 +8,6 @@ use Rattle.sheet.specs.Sheet.{load_lines}
 use Rattle.sheet.proofs.Blocks as blocks
 use Rattle.sheet.proofs.read_loads.Goals as goal
 
--- `sheet::read_loads` meets its contract. The loads stored so far and the text at the place say what the whole text says.
-
 pub loop-at-init : goal.loop-at-init
 loop-at-init c = let a = c.args in (omega arith, refl, ap (λ (so : List ℕ). load_lines a.n a.first 0 so (split 10 (drop a.from a.text.now))) (blocks.none_yet a.n a.loads.now))
 

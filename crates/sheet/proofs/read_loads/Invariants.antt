@@ -1,3 +1,4 @@
+-- `sheet::read_loads` meets its contract. The loads stored so far and the text at the place say what the whole text says.
 use Prim.Native.Nat.{◌≤◌, ◌-◌, ◌*◌}
 use mathlib.Core.Path.{◌≡◌}
 use mathlib.Core.List.{[]}

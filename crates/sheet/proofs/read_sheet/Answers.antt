@@ -1,10 +1,9 @@
+-- `sheet::read_sheet` meets its contract: the tests before all lines, then what the text says.
 use mathlib.Core.Path.{refl, ◌∙◌}
 use mathlib.Core.Logic.{inl, inr}
 use native.Mathlib.Omega.{arith}
 use Rattle.sheet.proofs.Texts as texts
 use Rattle.sheet.proofs.read_sheet.Goals as goal
-
--- `sheet::read_sheet` meets its contract: the tests before all lines, then what the text says.
 
 pub returns-then-sizes-ne-KINDS : goal.returns-then-sizes-ne-KINDS
 returns-then-sizes-ne-KINDS c = inl (c.if-sizes-ne-KINDS.true, refl)

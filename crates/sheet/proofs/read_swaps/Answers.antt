@@ -8,8 +8,6 @@ use Rattle.sheet.specs.Sheet.{swap_lines}
 use Rattle.sheet.proofs.Blocks as blocks
 use Rattle.sheet.proofs.read_swaps.Goals as goal
 
--- `sheet::read_swaps` meets its contract. The swaps stored so far and the text at the place say what the whole text says.
-
 pub loop-at-init : goal.loop-at-init
 loop-at-init c = let a = c.args in (omega arith, refl, ap (λ (so : List ℕ). swap_lines a.n a.sizes.now 0 so (split 10 (drop a.from a.text.now))) (blocks.none_yet (2 * a.n) a.swaps.now))
 
