@@ -1,4 +1,4 @@
-/* The calls of include/kitsettle.h, as a program in C has them: kit A of document 01 from text to settled load, and the refusals
+/* The calls of include/kitsettle.h, as a program in C has them: the README's sheet from text to settled load, and the refusals
  * that cross. Prints what differs; status 0 where nothing does. */
 #include "kitsettle.h"
 #include <stdio.h>

@@ -1,4 +1,4 @@
-"""The four calls of 01 with their refusals, over plain lists: each gives the answer and what the buffers then hold.
+"""The four calls with their refusals, over plain lists: each gives the answer and what the buffers then hold.
 
 The methods have the shape of door.Door, so that either can stand behind a comparison."""
 from . import completion, sheet, table

@@ -1,4 +1,4 @@
-"""The house's words: kit, load, grade, cost, cost order, refusal, and 01's limits."""
+"""The house's words: kit, load, grade, cost, cost order, refusal, and the limits."""
 from dataclasses import dataclass
 
 KINDS, BOUND, SIZE, COST, COUNT = 12, 1000, 1000, 1_000_000, 65_535
@@ -6,7 +6,7 @@ SWAPS, ROWS, LOADS, TEXT = 64, 256, 1024, 65_536
 
 
 class Refused(Exception):
-    """A refusal: 01's number and its place (swap, row or line; 0 where 01 names none)."""
+    """A refusal: its number and its place (swap, row or line; 0 where it has none)."""
 
     def __init__(self, number, place=0):
         super().__init__(number, place)

@@ -1,4 +1,4 @@
-"""A reader of sheets by the rules of "The sheet as text"."""
+"""A reader of sheets, written from the rules of a sheet's text."""
 import re
 from dataclasses import dataclass, field
 

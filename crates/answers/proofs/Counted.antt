@@ -19,7 +19,8 @@ use Rattle.shapes.specs.Split.{Got, fine, wrong, shaped, read_line, split, first
 use Rattle.shapes.specs.Rows.{is_empty}
 use Rattle.laws.specs.Outcome.{Never, passed, taken}
 use Rattle.sheet.specs.declared.Counts.{Counts}
-use Rattle.sheet.specs.declared.Read.TheVariants as answer
+use Rattle.std.specs.Prelude.{Ok, Err}
+use Rattle.terms.specs.declared.Refused.{Refused}
 use Rattle.records.specs.Lines.{Pieces, after, ask, within, all, kit_line, kit_of, size_line, cost_line, counts_line, swap_line, sides_of}
 use Rattle.sheet.specs.Sheet.{Records, load_lines, loads_after, swap_lines, Sheet, sheet_of, Result, result_of, tests, Reads}
 
@@ -119,10 +120,10 @@ sheet_counted text s e =
     let most = swaps_most k.0.0.kinds w.0.0 0 [] c.0.1 r.0 r.1 (omega arith) in
     subst Counted (same_fine r.2) (record { kinds = kit_fine (split 10 text) k.0 k.1; swaps = most.0; loads = most.1 })
 
-refused_not : {why : Refusal} {line : ℕ} {c : Counts} (o p : Result) → o.answer ≡ answer.Sheet c → p.answer ≡ answer.Refused why line → o ≡ p → ⊥
+refused_not : {r : Refused} {c : Counts} (o p : Result) → o.answer ≡ Ok c → p.answer ≡ Err r → o ≡ p → ⊥
 refused_not o p e f d = let g : o.answer ≡ p.answer = ap (λ (q : Result). q.answer) d in let z : ◌≡◌ {A = ℕ} 0 1 = cc in omega arith
 
-counted_by : (text : List ℕ) (c : Counts) (g : Got Sheet) → sheet_of text ≡ g → (result_of g).answer ≡ answer.Sheet c → KindsFine c.kinds × (c.swaps ≤ most_swaps) × (c.loads ≤ most_loads)
+counted_by : (text : List ℕ) (c : Counts) (g : Got Sheet) → sheet_of text ≡ g → (result_of g).answer ≡ Ok c → KindsFine c.kinds × (c.swaps ≤ most_swaps) × (c.loads ≤ most_loads)
 counted_by text c (wrong why line) f e = absurd (let z : ◌≡◌ {A = ℕ} 0 1 = cc in omega arith)
 counted_by text c (fine s) f e =
     let has = sheet_counted text s f in
@@ -130,7 +131,7 @@ counted_by text c (fine s) f e =
     subst (λ (d : Counts). KindsFine d.kinds × (d.swaps ≤ most_swaps) × (d.loads ≤ most_loads)) same (has.kinds, has.swaps, has.loads)
 
 -- the counts of an accepted answer
-pub reads_counted : (text sizes : List ℕ) (costs : List ℤ) (swaps loads : List ℕ) (o : Result) (c : Counts) → Reads text sizes costs swaps loads o → o.answer ≡ answer.Sheet c → KindsFine c.kinds × (c.swaps ≤ most_swaps) × (c.loads ≤ most_loads)
+pub reads_counted : (text sizes : List ℕ) (costs : List ℤ) (swaps loads : List ℕ) (o : Result) (c : Counts) → Reads text sizes costs swaps loads o → o.answer ≡ Ok c → KindsFine c.kinds × (c.swaps ≤ most_swaps) × (c.loads ≤ most_loads)
 reads_counted text sizes costs swaps loads o c r e =
     let all = tests text sizes costs swaps loads in
     let never-refused : Never o all =

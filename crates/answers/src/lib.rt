@@ -1,95 +1,96 @@
 // What the program writes for a sheet: the rule lines of the finished table, then a line for each load, or the refusal.
 #![tactic(auto)]
 
-ghost use Rattle.std.specs.Prelude.{◌+◌, ◌*◌, ◌≤◌, length};
+ghost use Rattle.std.specs.Prelude.{◌+◌, ◌*◌, ◌≤◌, length, Ok};
+ghost use Rattle.arrayvec.specs.ArrayVec.{array_vec_len};
 ghost use Rattle.terms.specs.Limits.{most_loads, most_text};
-ghost use Rattle.io.specs.Counts.{IsPrefixLen};
 ghost use Rattle.report.specs.Report.{Written};
-ghost use Rattle.answers.specs.Answer.{Show, told_by, Answer, out_most, Counted, Buffers};
+ghost use Rattle.answers.specs.Answer.{Show, told_by, Answer, out_most, Counted};
 
-use complete::Completed;
-use sheet::{Counts, Read};
+use arrayvec::ArrayVec;
+use settle::Table;
+use sheet::Counts;
 use terms::Kit;
 
+// How many counts the swaps of a sheet have at most, its loads, and the rows of its table.
+const SWAP_ROOM: usize = Kit::SWAPS * 2 * Kit::KINDS;
+
+const LOAD_ROOM: usize = Kit::LOADS * Kit::KINDS;
+
+const RULE_ROOM: usize = Kit::ROWS * 2 * Kit::KINDS;
+
 // The lines of a sheet that was read: the table's rules and the loads, or the refusal of the sheet's swaps. `rules` is the room that is lent.
-fn show(
-    out: &mut [u8],
+fn show<const N: usize>(
+    out: &mut ArrayVec<u8, N>,
     kit: Kit,
     sizes: &[u16],
     costs: &[i32],
     swaps: &[u16],
     rules: &mut [u16],
-    loads: &mut [u16],
+    loads: &[u16],
     count: usize,
     first: usize,
-) -> usize
-    requires { (count ≤ most_loads) × (count * kit.kinds ≤ length loads.old) × (first ≤ most_text) × (out_most ≤ length out.old) }
-    ensures written { Written (Show kit.kinds kit.bound sizes.now costs.now swaps.now rules.old loads.old count first) 0 out.old result out.new }
-    ensures upper_bound { result ≤ out_most }
+)
+    requires { (count ≤ most_loads) × (count * kit.kinds ≤ length loads.now) × (first ≤ most_text) × (array_vec_len out.old + out_most ≤ N) }
+    ensures written { Written (Show kit.kinds kit.bound sizes.now costs.now swaps.now rules.old loads.now count first) out.old.items out.new.items }
 {
-    let n = kit.kinds;
-    let bound = kit.bound;
     match complete::complete(kit, sizes, costs, swaps, rules) {
-        Completed::Rows(rows) => {
-            let at = report::rule_lines(out, 0, n, sizes, rules, rows);
-            report::load_lines(
-                out, at, n, bound, sizes, costs, rules, rows, loads, count, first,
-            )
+        Ok(rows) => {
+            let table = Table {
+                kit,
+                sizes,
+                costs,
+                rules,
+                rows,
+            };
+            report::rule_lines(out, &table);
+            report::load_lines(out, &table, loads, count, first);
         }
-        Completed::Refused(why, _) => print::refused_line(out, 0, numbers::number(why) as usize, 0),
+        Err(refused) => print::refused_line(out, u32::from(refused.why) as usize, 0),
     }
 }
 
 // The lines of a sheet by the reader's counts and buffers. 256 rows are lent for the table.
-fn sheet_lines(
-    out: &mut [u8],
-    c: Counts,
-    sizes: &[u16],
-    costs: &[i32],
-    swaps: &[u16],
-    loads: &mut [u16],
-) -> usize
-    requires { Counted c × Buffers sizes.now costs.now swaps.now loads.old × (out_most ≤ length out.old) }
-    ensures written { Written (told_by (Read.Sheet c) (record { answer = Read.Sheet c; sizes = sizes.now; costs = costs.now; swaps = swaps.now; loads = loads.old })) 0 out.old result out.new }
-    ensures upper_bound { result ≤ out_most }
+fn sheet_lines<const N: usize>(
+    out: &mut ArrayVec<u8, N>,
+    counts: Counts,
+    sizes: &[u16; Kit::KINDS],
+    costs: &[i32; Kit::KINDS],
+    swaps: &[u16; SWAP_ROOM],
+    loads: &[u16; LOAD_ROOM],
+)
+    requires { Counted counts × (array_vec_len out.old + out_most ≤ N) }
+    ensures written { Written (told_by (Ok counts) (record { answer = Ok counts; sizes = sizes.now; costs = costs.now; swaps = swaps.now; loads = loads.now })) out.old.items out.new.items }
 {
-    let n = c.kinds;
-    let bound = c.bound;
-    let first = 4 + c.swaps;
-    let used = c.swaps * (2 * n);
-    let lent = Kit::ROWS * (2 * n);
-    let count = c.loads;
-    let mut rules = [0u16; 6144];
+    let Counts { kinds, bound, .. } = counts;
+    let first = 4 + counts.swaps;
+    let used = counts.swaps * (2 * kinds);
+    let lent = Kit::ROWS * (2 * kinds);
+    let mut rules = [0u16; RULE_ROOM];
     show(
         out,
-        Kit::of(n, bound),
-        &sizes[..n],
-        &costs[..n],
+        Kit { kinds, bound },
+        &sizes[..kinds],
+        &costs[..kinds],
         &swaps[..used],
         &mut rules[..lent],
         loads,
-        count,
+        counts.loads,
         first,
-    )
+    );
 }
 
-// Everything that the program writes for a text.
-pub fn answer(text: &[u8], out: &mut [u8]) -> usize
-    requires { out_most ≤ length out.old }
-    ensures written { Written (Answer text.now) 0 out.old result out.new }
-    ensures in_buffer { IsPrefixLen result out.new }
+// Everything that the program writes for a text, appended.
+pub fn answer<const N: usize>(text: &[u8], out: &mut ArrayVec<u8, N>)
+    requires { array_vec_len out.old + out_most ≤ N }
+    ensures written { Written (Answer text.now) out.old.items out.new.items }
 {
-    let mut sizes = [0u16; 12];
-    let mut costs = [0i32; 12];
-    let mut swaps = [0u16; 1536];
-    let mut loads = [0u16; 12288];
+    let mut sizes = [0u16; Kit::KINDS];
+    let mut costs = [0i32; Kit::KINDS];
+    let mut swaps = [0u16; SWAP_ROOM];
+    let mut loads = [0u16; LOAD_ROOM];
     match sheet::read_sheet(text, &mut sizes, &mut costs, &mut swaps, &mut loads) {
-        Read::Sheet(c) => sheet_lines(out, c, &sizes, &costs, &swaps, &mut loads),
-        Read::Refused(why, line) => print::refused_line(
-            out,
-            0,
-            numbers::number(why) as usize,
-            line,
-        ),
+        Ok(counts) => sheet_lines(out, counts, &sizes, &costs, &swaps, &loads),
+        Err(refused) => print::refused_line(out, u32::from(refused.why) as usize, refused.place),
     }
 }

@@ -1,4 +1,4 @@
--- The theory over lists of n counts, and its theorems in the words of document 01.
+-- The theory over lists of n counts, and its theorems in the house's words.
 pub mod Instance
 pub mod Carry
 pub mod Loads

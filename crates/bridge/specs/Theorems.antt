@@ -1,4 +1,4 @@
--- THE THEOREMS, in the words of document 01 and over plain lists. A kit is n and sizes of at least 1 (`IsKit`), a sheet
+-- THE THEOREMS, in the house's words and over plain lists. A kit is n and sizes of at least 1 (`IsKit`), a sheet
 -- is swaps of n counts a side and of equal grades (`IsSheet`); costs are any. What is proved of what loads reach holds
 -- for any relation that is `Regular`, and by `reaches_regular` for what they reach by a sheet.
 --     finished_exists   there is a finished table, for every sheet and bound
@@ -81,7 +81,7 @@ module _ {n : ℕ} {sizes : List ℕ} (costs : List ℤ) (kit : IsKit n sizes) w
           falls = subst (λ (b : Row). Before costs b.tail b.head) r.2 p.lower;
         }
 
-    -- ---- demand 3: what it does to a load within the bound
+    -- ---- what it does to a load within the bound
 
     -- The load settles to the first of all loads that it reaches.
     pub settles_first : {bound : ℕ} {T : List Row} → Finished n bound sizes costs reach T → {x y : List ℕ} → length x ≡ n → grade sizes x ≤ bound → Settles T x y → FirstReached costs reach x y

@@ -1,2 +1,2 @@
-// The theory is about the definitions of `terms`: the kit of lists of n counts, and the theorems in the words of 01. Definitions and theorems only.
+// The theory is about the definitions of `terms`: the kit of lists of n counts, and the theorems in the house's words. Definitions and theorems only.
 #![tactic(auto)]

@@ -17,13 +17,7 @@ pub fn cost_of(costs: &[i32], x: &[u16]) -> Cost
     requires { (length costs.now ≡ length x.now) × (length x.now ≤ most_kinds) }
     ensures { result ≡ cost costs.now x.now }
 {
-    let mut sum: Cost = 0;
-    let mut k = 0;
-    while k < x.len() {
-        sum += (x[k] as Cost) * (costs[k] as Cost);
-        k += 1;
-    }
-    sum
+    loads::measure_of(costs, x)
 }
 
 // Whether x has the smaller count at the first kind where the two differ.
@@ -31,19 +25,7 @@ pub fn lex_less(x: &[u16], y: &[u16]) -> bool
     requires { length x.now ≡ length y.now }
     ensures { Decides (Lex x.now y.now) result }
 {
-    let mut k = 0;
-    while k < x.len() {
-        let a = x[k];
-        let b = y[k];
-        if a < b {
-            return true;
-        }
-        if b < a {
-            return false;
-        }
-        k += 1;
-    }
-    false
+    x < y
 }
 
 // Whether x comes before y in the cost order.
@@ -51,52 +33,27 @@ pub fn comes_before(costs: &[i32], x: &[u16], y: &[u16]) -> bool
     requires { (length costs.now ≡ length x.now) × (length x.now ≡ length y.now) × (length x.now ≤ most_kinds) }
     ensures { Decides (Before costs.now x.now y.now) result }
 {
-    let cx = cost_of(costs, x);
-    let cy = cost_of(costs, y);
-    if cx < cy {
-        return true;
-    }
-    if cy < cx {
-        return false;
-    }
-    lex_less(x, y)
+    (cost_of(costs, x), x) < (cost_of(costs, y), y)
 }
 
 // Whether every cost is in range.
 pub fn costs_fine(costs: &[i32]) -> bool
     ensures { Decides (All CostFine costs.now) result }
 {
-    let mut k = 0;
-    while k < costs.len() {
-        let c = costs[k];
-        if c < -Kit::COST {
-            return false;
-        }
-        if Kit::COST < c {
-            return false;
-        }
-        k += 1;
-    }
-    true
+    costs
+        .iter()
+        .all(|cost| (-Kit::COST..=Kit::COST).contains(cost))
 }
 
 // Whether two loads can be compared.
 pub fn pair_fine(n: usize, costs: &[i32], x: &[u16], y: &[u16]) -> bool
     ensures { Decides (Fine n costs.now x.now y.now) result }
 {
-    if !loads::in_range(n, Kit::KINDS) {
-        return false;
-    }
-    if costs.len() != n {
-        return false;
-    }
-    if x.len() != n {
-        return false;
-    }
-    if y.len() != n {
-        return false;
-    }
-    costs_fine(costs)
+    loads::in_range(n, Kit::KINDS)
+        && costs.len() == n
+        && x.len() == n
+        && y.len() == n
+        && costs_fine(costs)
 }
 
 // The load that comes first in the cost order, as the part lent; equal loads give the first, and refused input its empty part.

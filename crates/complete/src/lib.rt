@@ -1,161 +1,131 @@
 // Completion: the finished table of a kit and its sheet.
 #![tactic(auto)]
 
-ghost use Rattle.std.specs.Prelude.{◌≡◌, ◌+◌, ◌*◌, ◌≤◌, length};
+ghost use Rattle.std.specs.Prelude.{◌≡◌, ◌≤◌, length, Ok};
 ghost use Rattle.terms.specs.Decides.{Decides};
-ghost use Rattle.terms.specs.Load.{zeros, grade};
-ghost use Rattle.terms.specs.Limits.{KindsFine, most_bound, most_rows};
+ghost use Rattle.terms.specs.Load.{grade};
+ghost use Rattle.terms.specs.Limits.{KindsFine, BoundFine, most_bound, most_swaps, most_rows};
+ghost use Rattle.terms.specs.Flat.{numbered, rows_lent};
 ghost use Rattle.terms.specs.Outcome.{Outcome};
 ghost use Rattle.loads.specs.Lent.{Lent};
+ghost use Rattle.rack.specs.Rows.{as_rows};
 ghost use Rattle.growth.specs.State.{stamp};
-ghost use Rattle.complete.specs.Grown.{Stamped, Grown};
+ghost use Rattle.complete.specs.Grown.{stamped_at, Grown};
 ghost use Rattle.complete.specs.Passed.{Fit};
 ghost use Rattle.complete.specs.Call.{Lengths, input_tests, Finishing, Completing};
 
-use terms::{Kit, Refusal};
+use arrayvec::ArrayVec;
+use grades::Stamped;
+use rack::Table;
+use terms::{Kit, Refusal, Refused};
 
-// What completing answers: the number of rows, or why not, with the swap's number for a bad swap and 0 for any other reason.
+// A kit and its sheet, as they are lent.
 #[derive(Clone, Copy)]
-pub enum Completed {
-    Rows(usize),
-    Refused(Refusal, usize),
+pub struct Sheet<'a> {
+    pub kit: Kit,
+    pub sizes: &'a [u16],
+    pub costs: &'a [i32],
+    pub swaps: &'a [u16],
 }
 
-// Whether the lent tables have the lengths that n asks.
-pub fn lengths_fine(n: usize, sizes: &[u16], costs: &[i32], swaps: &[u16], rules: &[u16]) -> bool
-    requires { KindsFine n }
-    ensures { Decides (Lengths n sizes.now costs.now swaps.now rules.now) result }
-{
-    if sizes.len() != n {
-        return false;
+impl Sheet<'_> {
+    // Whether what is lent has the lengths that the number of kinds asks.
+    pub fn lengths_fine(&self, rules: &[u16]) -> bool
+        requires { KindsFine self.now.kit.kinds }
+        ensures { Decides (Lengths self.now.kit.kinds self.now.sizes.now self.now.costs.now self.now.swaps.now rules.now) result }
+    {
+        let n = self.kit.kinds;
+        self.sizes.len() == n
+            && self.costs.len() == n
+            && loads::lent(n, Kit::SWAPS, self.swaps)
+            && loads::lent(n, Kit::ROWS, rules)
     }
-    if costs.len() != n {
-        return false;
+
+    // The first test of what is lent that fails, as the refusal. It only reads.
+    pub fn tested(&self, rules: &[u16]) -> Result<(), Refused>
+        ensures { Outcome (λ o. o.0 ≡ Ok tt) (input_tests self.now.kit.kinds self.now.kit.bound self.now.sizes.now self.now.costs.now self.now.swaps.now rules.now) (result, rules.now) }
+    {
+        let n = self.kit.kinds;
+        if !loads::in_range(n, Kit::KINDS) {
+            return Err(Refusal::Kinds.at(0));
+        }
+        if !loads::in_range(self.kit.bound, Kit::BOUND) {
+            return Err(Refusal::Bound.at(0));
+        }
+        if !self.lengths_fine(rules) {
+            return Err(Refusal::Length.at(0));
+        }
+        if !loads::sizes_fine(self.sizes) {
+            return Err(Refusal::Size.at(0));
+        }
+        if !compare::costs_fine(self.costs) {
+            return Err(Refusal::Cost.at(0));
+        }
+        let count = self.swaps.len() / (2 * n);
+        let Some(bad) = sides::first_bad(n, self.sizes, self.swaps, count) else {
+            return Ok(());
+        };
+        if !sides::unequal(n, self.swaps, bad) {
+            return Err(Refusal::SameSides.at(bad));
+        }
+        Err(Refusal::UnequalGrades.at(bad))
     }
-    if !loads::lent(n, Kit::SWAPS, swaps) {
-        return false;
+
+    // The sheet's swaps as swaps of 12 kinds with their stamps, for the sizes of the 12 kinds.
+    fn stamped(&self, sizes: &[u16; Kit::KINDS]) -> ArrayVec<Stamped, { Kit::SWAPS }>
+        requires { KindsFine self.now.kit.kinds × BoundFine self.now.kit.bound × Lent self.now.kit.kinds most_swaps self.now.swaps.now }
+        ensures { result.items ≡ numbered (stamped_at self.now.kit.kinds self.now.kit.bound sizes.now self.now.swaps.now) 0 (rows_lent self.now.kit.kinds self.now.swaps.now) }
+    {
+        let Kit { kinds: n, bound } = self.kit;
+        let mut sheet = ArrayVec::new();
+        for swap in self.swaps.chunks_exact(2 * n) {
+            let (left, right) = swap.split_at(n);
+            let left = padding::widen(left);
+            let right = padding::widen(right);
+            let stamp = stamp_of(bound, sizes, &left);
+            sheet.push(Stamped { left, right, stamp });
+        }
+        sheet
     }
-    loads::lent(n, Kit::ROWS, rules)
+
+    // The kit completed as one of 12 kinds, by weight, in an empty table: it then has more rows than the room where there is none for them.
+    fn grow(&self, table: &mut Table, room: usize)
+        requires { Fit self.now.kit.kinds self.now.kit.bound self.now.sizes.now self.now.costs.now self.now.swaps.now × (room ≤ most_rows) }
+        ensures { Grown self.now.kit.kinds self.now.kit.bound self.now.sizes.now self.now.costs.now self.now.swaps.now room (as_rows table.new.items) }
+    {
+        let sizes = padding::widen_sizes(self.sizes);
+        let weights = padding::weigh_all(self.sizes, self.costs);
+        let swaps = self.stamped(&sizes);
+        grades::all_grades(&sizes, &weights, self.kit.bound, &swaps, table, room);
+    }
+
+    // The finished table in the rule table, or no room for it and 0 everywhere.
+    fn finish(&self, rules: &mut [u16]) -> Result<usize, Refused>
+        requires { Fit self.now.kit.kinds self.now.kit.bound self.now.sizes.now self.now.costs.now self.now.swaps.now × Lent self.now.kit.kinds most_rows rules.old }
+        ensures { Finishing self.now.kit.kinds self.now.kit.bound self.now.sizes.now self.now.costs.now self.now.swaps.now rules.old (result, rules.new) }
+    {
+        let n = self.kit.kinds;
+        let room = rules.len() / (2 * n);
+        let mut table = Table::new();
+        self.grow(&mut table, room);
+        rules.fill(0);
+        let rows = table.len();
+        if room < rows {
+            return Err(Refusal::NoRoom.at(0));
+        }
+        padding::lay_rows(n, &table, rules);
+        Ok(rows)
+    }
 }
 
-// The first reason to refuse that what is lent gives, or no rows where there is none. It only reads.
-pub fn refusal(
-    n: usize,
-    bound: usize,
-    sizes: &[u16],
-    costs: &[i32],
-    swaps: &[u16],
-    rules: &[u16],
-) -> Completed
-    ensures { Outcome (λ o. o.0 ≡ Completed.Rows 0) (input_tests n bound sizes.now costs.now swaps.now rules.now) (result, rules.now) }
-{
-    if !loads::in_range(n, Kit::KINDS) {
-        return Completed::Refused(Refusal::Kinds, 0);
-    }
-    if !loads::in_range(bound, Kit::BOUND) {
-        return Completed::Refused(Refusal::Bound, 0);
-    }
-    if !lengths_fine(n, sizes, costs, swaps, rules) {
-        return Completed::Refused(Refusal::Length, 0);
-    }
-    if !loads::sizes_fine(sizes) {
-        return Completed::Refused(Refusal::Size, 0);
-    }
-    if !compare::costs_fine(costs) {
-        return Completed::Refused(Refusal::Cost, 0);
-    }
-    let count = swaps.len() / (2 * n);
-    let bad = sides::first_bad(n, sizes, swaps, count);
-    if count <= bad {
-        return Completed::Rows(0);
-    }
-    if !sides::unequal(n, swaps, bad) {
-        return Completed::Refused(Refusal::SameSides, bad);
-    }
-    Completed::Refused(Refusal::UnequalGrades, bad)
-}
-
-// The stamp of a load of 12 kinds: its grade where that is within the bound, else 0, at which nothing is due.
-fn stamp_of(bound: usize, sizes: &[u16], x: &[u16]) -> u16
-    requires { (bound ≤ most_bound) × (length sizes.now ≡ 12) × (length x.now ≡ 12) }
+// The stamp of a load of 12 kinds: its grade where that is within the bound, else 0, at which nothing is due. A number and no Option:
+// growth's `stamp` says it so, and the scan for the next grade reads numbers side by side.
+fn stamp_of(bound: usize, sizes: &[u16; Kit::KINDS], x: &[u16; Kit::KINDS]) -> u16
+    requires { bound ≤ most_bound }
     ensures { result ≡ stamp bound (grade sizes.now x.now) }
 {
     let grade = loads::grade_of(sizes, x);
-    if bound < grade {
-        return 0;
-    }
-    grade as u16
-}
-
-// The stamps of the first `count` swaps of 12 kinds.
-fn stamp_all(bound: usize, sizes: &[u16], swaps: &[u16], count: usize, stamps: &mut [u16])
-    requires { (bound ≤ most_bound) × (length sizes.now ≡ 12) × (count * 24 ≤ length swaps.now) × (count ≤ length stamps.old) }
-    ensures { Stamped bound sizes.now swaps.now count stamps.new }
-{
-    let mut k = 0;
-    while k < count {
-        stamps[k] = stamp_of(bound, sizes, loads::left_of(Kit::KINDS, swaps, k));
-        k += 1;
-    }
-}
-
-// Every number of a table set to 0.
-fn clear(table: &mut [u16])
-    ensures { table.new ≡ zeros (length table.old) }
-{
-    let mut k = 0;
-    while k < table.len() {
-        table[k] = 0;
-        k += 1;
-    }
-}
-
-// The kit completed as one of 12 kinds, by weight: how many rows the working table then has, more than the room where there is none for them.
-fn grow(
-    n: usize,
-    bound: usize,
-    sizes: &[u16],
-    costs: &[i32],
-    swaps: &[u16],
-    table: &mut [u16],
-    room: usize,
-) -> usize
-    requires { Fit n bound sizes.now costs.now swaps.now × (room ≤ most_rows) × (room * 24 + 24 ≤ length table.old) }
-    ensures { Grown n bound sizes.now costs.now swaps.now room table.new result }
-{
-    let mut wide = [0u16; 12];
-    let mut weights = [0u32; 12];
-    let mut sheet = [0u16; 1536];
-    let mut stamps = [0u16; 64];
-    let count = swaps.len() / (2 * n);
-    padding::widen_sizes(n, sizes, &mut wide);
-    padding::weigh_all(n, sizes, costs, &mut weights);
-    padding::widen_swaps(n, swaps, count, &mut sheet);
-    stamp_all(bound, &wide, &sheet, count, &mut stamps);
-    grades::all_grades(&wide, &weights, bound, &sheet, &stamps, count, table, room)
-}
-
-// The finished table in the rule table, or no room for it and 0 everywhere.
-fn finish(
-    n: usize,
-    bound: usize,
-    sizes: &[u16],
-    costs: &[i32],
-    swaps: &[u16],
-    rules: &mut [u16],
-) -> Completed
-    requires { Fit n bound sizes.now costs.now swaps.now × Lent n most_rows rules.old }
-    ensures { Finishing n bound sizes.now costs.now swaps.now rules.old (result, rules.new) }
-{
-    let room = rules.len() / (2 * n);
-    let mut table = [0u16; 6168];
-    let rows = grow(n, bound, sizes, costs, swaps, &mut table, room);
-    clear(rules);
-    if room < rows {
-        return Completed::Refused(Refusal::NoRoom, 0);
-    }
-    padding::resize_rows(Kit::KINDS, &table, rows, n, rules);
-    Completed::Rows(rows)
+    if grade <= bound { grade as u16 } else { 0 }
 }
 
 // Complete: the number of rows of the finished table, which the rule table then holds; refused for room it is 0, and refused otherwise as it was lent.
@@ -165,14 +135,15 @@ pub fn complete(
     costs: &[i32],
     swaps: &[u16],
     rules: &mut [u16],
-) -> Completed
+) -> Result<usize, Refused>
     ensures { Completing kit.kinds kit.bound sizes.now costs.now swaps.now rules.old (result, rules.new) }
 {
-    let n = kit.kinds;
-    let bound = kit.bound;
-    let answer = refusal(n, bound, sizes, costs, swaps, rules);
-    let Completed::Rows(_) = answer else {
-        return answer;
+    let sheet = Sheet {
+        kit,
+        sizes,
+        costs,
+        swaps,
     };
-    finish(n, bound, sizes, costs, swaps, rules)
+    sheet.tested(rules)?;
+    sheet.finish(rules)
 }

@@ -1,64 +1,76 @@
-// The lines of document 01's table that complete reaches, each with the whole rule table at exit. Every number lent is 7.
+// The lines of the worked table that complete reaches, each with the whole rule table at exit. Every number lent is 7.
 #![tactic(auto)]
 
-use complete::Completed;
-use tell::STDOUT;
+use complete::Sheet;
+use std::io;
+use tell::Counts;
 use terms::Kit;
 
-fn show(label: &[u8], answer: Completed, rules: &[u16]) {
-    io::write_all(STDOUT, label);
+// The answer and the rule table at exit, as in the table.
+fn show(rt: &impl Print, label: &str, sheet: Sheet, rules: &mut [u16]) -> io::Result<()> {
+    let answer = complete::complete(sheet.kit, sheet.sizes, sheet.costs, sheet.swaps, rules);
+    let rules = Counts(rules);
     match answer {
-        Completed::Rows(rows) => {
-            io::write_all(STDOUT, b" rows ");
-            tell::write_number((rows % 100) as u8);
-        }
-        Completed::Refused(why, place) => {
-            io::write_all(STDOUT, b" refused ");
-            tell::write_number((numbers::number(why) % 100) as u8);
-            io::write_all(STDOUT, b" at ");
-            tell::write_number((place % 100) as u8);
-        }
+        Ok(rows) => println!(rt; "{label} rows {rows}:{rules}"),
+        Err(refused) => println!(rt;
+            "{label} refused {} at {}:{rules}",
+            u32::from(refused.why),
+            refused.place
+        ),
     }
-    io::write_all(STDOUT, b":");
-    tell::write_counts(rules);
 }
 
-fn kit_a(label: &[u8], bound: usize, rules: &mut [u16]) {
-    let sizes = [1u16, 2, 3, 4];
-    let costs = [0i32, 1, 0, 0];
-    let swaps = [1u16, 0, 1, 0, 0, 2, 0, 0, 0, 1, 0, 1, 0, 0, 2, 0];
-    let answer = complete::complete(Kit::of(4, bound), &sizes, &costs, &swaps, rules);
-    show(label, answer, rules);
+const KIT_A: Sheet = Sheet {
+    kit: Kit {
+        kinds: 4,
+        bound: 12,
+    },
+    sizes: &[1, 2, 3, 4],
+    costs: &[0, 1, 0, 0],
+    swaps: &[1, 0, 1, 0, 0, 2, 0, 0, 0, 1, 0, 1, 0, 0, 2, 0],
+};
+
+const KIT_T: Sheet = Sheet {
+    kit: Kit {
+        kinds: 3,
+        bound: 20,
+    },
+    sizes: &[5, 2, 2],
+    costs: &[0, 0, 0],
+    swaps: &[1, 1, 0, 1, 0, 1],
+};
+
+const KIT_N: Sheet = Sheet {
+    kit: Kit { kinds: 2, bound: 5 },
+    sizes: &[1, 1],
+    costs: &[-3, -2],
+    swaps: &[1, 0, 0, 1],
+};
+
+// Kit A with a lower bound.
+fn kit_a_to(bound: usize) -> Sheet<'static> {
+    let kit = Kit::of(4, bound);
+    Sheet { kit, ..KIT_A }
 }
 
-fn kit_t(label: &[u8], rules: &mut [u16]) {
-    let sizes = [5u16, 2, 2];
-    let costs = [0i32, 0, 0];
-    let swaps = [1u16, 1, 0, 1, 0, 1];
-    let answer = complete::complete(Kit::of(3, 20), &sizes, &costs, &swaps, rules);
-    show(label, answer, rules);
-}
-
-fn kit_n(label: &[u8], cost: i32, swaps: &[u16]) {
-    let sizes = [1u16, 1];
-    let costs = [cost, -2];
-    let mut rules = [7u16; 8];
-    let answer = complete::complete(Kit::of(2, 5), &sizes, &costs, swaps, &mut rules);
-    show(label, answer, &rules);
-}
-
-fn main() {
-    kit_a(b"P1", 12, &mut [7u16; 32]);
-    kit_a(b"P2", 11, &mut [7u16; 24]);
-    kit_a(b"P2", 11, &mut [7u16; 40]);
-    kit_a(b"P3", 12, &mut [7u16; 24]);
-    kit_a(b"P4", 3, &mut [7u16; 0]);
-    kit_a(b"P5", 4, &mut [7u16; 0]);
-    kit_t(b"T", &mut [7u16; 12]);
-    kit_n(b"N", -3, &[1u16, 0, 0, 1]);
-    kit_n(b"13", -3, &[1u16, 1, 1, 1]);
-    kit_n(b"13", -3, &[1u16, 0, 0, 0]);
-    kit_n(b"13", -3, &[1u16, 0, 0, 1, 1, 0, 0, 0]);
-    kit_n(b"14", 1_000_000, &[1u16, 0, 0, 1]);
-    kit_n(b"14", 1_000_001, &[1u16, 0, 0, 1]);
+fn main(rt: HostRuntime) -> io::Result<()> {
+    show(&rt, "P1", KIT_A, &mut [7; 32])?;
+    show(&rt, "P2", kit_a_to(11), &mut [7; 24])?;
+    show(&rt, "P2", kit_a_to(11), &mut [7; 40])?;
+    show(&rt, "P3", KIT_A, &mut [7; 24])?;
+    show(&rt, "P4", kit_a_to(3), &mut [])?;
+    show(&rt, "P5", kit_a_to(4), &mut [])?;
+    show(&rt, "T", KIT_T, &mut [7; 12])?;
+    show(&rt, "N", KIT_N, &mut [7; 8])?;
+    for swaps in [[1, 1, 1, 1], [1, 0, 0, 0]] {
+        let swaps = &swaps;
+        show(&rt, "13", Sheet { swaps, ..KIT_N }, &mut [7; 8])?;
+    }
+    let swaps = &[1, 0, 0, 1, 1, 0, 0, 0];
+    show(&rt, "13", Sheet { swaps, ..KIT_N }, &mut [7; 8])?;
+    for cost in [1_000_000, 1_000_001] {
+        let costs = &[cost, -2];
+        show(&rt, "14", Sheet { costs, ..KIT_N }, &mut [7; 8])?;
+    }
+    Ok(())
 }

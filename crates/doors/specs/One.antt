@@ -1,17 +1,17 @@
 -- Each call answers one thing: two outcomes that its contract allows are the same, numbers, places and buffers.
 use Rattle.std.specs.Prelude.{ℕ, ◌≡◌, refl, Bool, true, false, List, eqb, ℤ}
+use Rattle.std.specs.Prelude as std
 use Rattle.std.proofs.Common.{sym, ap, ◌∙◌, eqb-true}
 use Rattle.std.proofs.lemmas.Bool.{eqb-false}
 use Rattle.terms.specs.Order.{Before}
 use Rattle.laws.specs.Order.{before?}
 use Rattle.compare.specs.Earlier.{Fine}
-use Rattle.complete.specs.declared.Completed.{Completed}
 use Rattle.promises.specs.Promises.{one_completion, one_settling}
-use Rattle.settle.specs.declared.Settled.{Settled}
+use Rattle.terms.specs.declared.Refused.{Refused}
 use Rattle.sheet.specs.declared.Counts.{Counts}
 use Rattle.sheet.specs.Sheet.{Result}
 use Rattle.sheet.proofs.One.{reads_one}
-use Rattle.doors.specs.Answers.{EarlierIs, complete_number, complete_place, CompleteIs, settle_number, settle_place, SettleIs, read_number, read_line, read_counts, ReadIs}
+use Rattle.doors.specs.Answers.{EarlierIs, answer_number, answer_place, complete_place, CompleteIs, SettleIs, read_counts, ReadIs}
 
 -- numbers that cannot differ are the same
 stable : (a b : ℕ) → ((a ≡ b → ⊥) → ⊥) → a ≡ b
@@ -34,18 +34,18 @@ earlier_is_one n costs x y r s p q = stable r s (λ differ. differ (p.refused (�
 pub settle_is_one : (n bound : ℕ) (sizes : List ℕ) (costs : List ℤ) (rules : List ℕ) (rows : ℕ) (load : List ℕ) (r s : ℕ) (after after' : List ℕ) (place place' : ℕ) → SettleIs n bound sizes costs rules rows load r after place → SettleIs n bound sizes costs rules rows load s after' place' → (r ≡ s) × (after ≡ after') × (place ≡ place')
 settle_is_one n bound sizes costs rules rows load r s after after' place place' p q =
     let e = one_settling n bound sizes costs rules rows load (p.answer, after) (q.answer, after') p.made q.made in
-    let a : p.answer ≡ q.answer = ap (λ (o : Settled × List ℕ). o.0) e in (
-      p.number ∙ ap settle_number a ∙ sym q.number,
-      ap (λ (o : Settled × List ℕ). o.1) e,
-      p.at ∙ ap settle_place a ∙ sym q.at,
+    let a : p.answer ≡ q.answer = ap (λ (o : std.Result (Unit {0}) Refused × List ℕ). o.0) e in (
+      p.number ∙ ap answer_number a ∙ sym q.number,
+      ap (λ (o : std.Result (Unit {0}) Refused × List ℕ). o.1) e,
+      p.at ∙ ap answer_place a ∙ sym q.at,
     )
 
 pub complete_is_one : (n bound : ℕ) (sizes : List ℕ) (costs : List ℤ) (swaps rules : List ℕ) (r s : ℕ) (after after' : List ℕ) (place place' : ℕ) → CompleteIs n bound sizes costs swaps rules r after place → CompleteIs n bound sizes costs swaps rules s after' place' → (r ≡ s) × (after ≡ after') × (place ≡ place')
 complete_is_one n bound sizes costs swaps rules r s after after' place place' p q =
     let e = one_completion n bound sizes costs swaps rules (p.answer, after) (q.answer, after') p.made q.made in
-    let a : p.answer ≡ q.answer = ap (λ (o : Completed × List ℕ). o.0) e in (
-      p.number ∙ ap complete_number a ∙ sym q.number,
-      ap (λ (o : Completed × List ℕ). o.1) e,
+    let a : p.answer ≡ q.answer = ap (λ (o : std.Result ℕ Refused × List ℕ). o.0) e in (
+      p.number ∙ ap answer_number a ∙ sym q.number,
+      ap (λ (o : std.Result ℕ Refused × List ℕ). o.1) e,
       p.at ∙ ap complete_place a ∙ sym q.at,
     )
 
@@ -53,8 +53,8 @@ pub read_is_one : (text sizes : List ℕ) (costs : List ℤ) (swaps loads : List
 read_is_one text sizes costs swaps loads r s o p counts counts' line line' i j =
     let e = reads_one text sizes costs swaps loads _ _ i.made j.made in
     let a : i.answer ≡ j.answer = ap (λ (q : Result). q.answer) e in (
-      i.number ∙ ap read_number a ∙ sym j.number,
+      i.number ∙ ap answer_number a ∙ sym j.number,
       (ap (λ (q : Result). q.sizes) e, ap (λ (q : Result). q.costs) e, ap (λ (q : Result). q.swaps) e, ap (λ (q : Result). q.loads) e),
       i.has ∙ ap read_counts a ∙ sym j.has,
-      i.at ∙ ap read_line a ∙ sym j.at,
+      i.at ∙ ap answer_place a ∙ sym j.at,
     )

@@ -4,12 +4,29 @@
 
 ghost use Rattle.std.specs.Prelude.{◌≡◌};
 ghost use Rattle.doors.specs.Answers.{EarlierIs, CompleteIs, SettleIs, ReadIs};
-ghost use Rattle.doors.specs.Answers.{complete_number, complete_place, settle_number, settle_place, read_number, read_line, read_counts};
+ghost use Rattle.doors.specs.Answers.{answer_number, answer_place};
 
-use complete::Completed;
-use settle::Settled;
-use sheet::{Counts, Read};
-use terms::Kit;
+use terms::{Kit, Refused};
+
+// 0, or the refusal number.
+fn answer_number<T: Copy>(answer: Result<T, Refused>) -> u32
+    ensures { result ≡ answer_number answer }
+{
+    match answer {
+        Ok(_) => 0,
+        Err(refused) => u32::from(refused.why),
+    }
+}
+
+// The place of the refusal, 0 where there is none.
+fn answer_place<T: Copy>(answer: Result<T, Refused>) -> usize
+    ensures { result ≡ answer_place answer }
+{
+    match answer {
+        Ok(_) => 0,
+        Err(refused) => refused.place,
+    }
+}
 
 // 1 or 2, the load that comes first; 0 where the input is refused.
 #[unsafe(no_mangle)]
@@ -30,26 +47,9 @@ pub extern "C" fn kitsettle_earlier(
     1
 }
 
-fn complete_number(a: Completed) -> u32
-    ensures { result ≡ complete_number a }
-{
-    match a {
-        Completed::Rows(_) => 0,
-        Completed::Refused(why, _) => numbers::number(why),
-    }
-}
-
-fn complete_place(a: Completed) -> usize
-    ensures { result ≡ complete_place a }
-{
-    match a {
-        Completed::Rows(rows) => rows,
-        Completed::Refused(_, place) => place,
-    }
-}
-
 // 0 and the number of rows at `place`; or the refusal number, with its place there.
 #[unsafe(no_mangle)]
+#[tactic(auto, using(crate::proofs::Places::rows_or_place))]
 pub extern "C" fn kitsettle_complete(
     kinds: usize,
     bound: usize,
@@ -61,27 +61,9 @@ pub extern "C" fn kitsettle_complete(
 ) -> u32
     ensures { CompleteIs kinds bound sizes.now costs.now swaps.now rules.old result rules.new place.new }
 {
-    let a = complete::complete(Kit::of(kinds, bound), sizes, costs, swaps, rules);
-    *place = complete_place(a);
-    complete_number(a)
-}
-
-fn settle_number(a: Settled) -> u32
-    ensures { result ≡ settle_number a }
-{
-    match a {
-        Settled::Done => 0,
-        Settled::Refused(why, _) => numbers::number(why),
-    }
-}
-
-fn settle_place(a: Settled) -> usize
-    ensures { result ≡ settle_place a }
-{
-    match a {
-        Settled::Done => 0,
-        Settled::Refused(_, place) => place,
-    }
+    let answer = complete::complete(Kit { kinds, bound }, sizes, costs, swaps, rules);
+    *place = answer.unwrap_or(answer_place(answer));
+    answer_number(answer)
 }
 
 // 0, and the load is settled; or the refusal number, with its place at `place`.
@@ -98,41 +80,9 @@ pub extern "C" fn kitsettle_settle(
 ) -> u32
     ensures { SettleIs kinds bound sizes.now costs.now rules.now rows load.old result load.new place.new }
 {
-    let a = settle::settle(Kit::of(kinds, bound), sizes, costs, rules, rows, load);
-    *place = settle_place(a);
-    settle_number(a)
-}
-
-fn read_number(a: Read) -> u32
-    ensures { result ≡ read_number a }
-{
-    match a {
-        Read::Sheet(_) => 0,
-        Read::Refused(why, _) => numbers::number(why),
-    }
-}
-
-fn read_line(a: Read) -> usize
-    ensures { result ≡ read_line a }
-{
-    match a {
-        Read::Sheet(_) => 0,
-        Read::Refused(_, line) => line,
-    }
-}
-
-fn read_counts(a: Read) -> Counts
-    ensures { result ≡ read_counts a }
-{
-    match a {
-        Read::Sheet(c) => c,
-        Read::Refused(_, _) => Counts {
-            kinds: 0,
-            bound: 0,
-            swaps: 0,
-            loads: 0,
-        },
-    }
+    let answer = settle::settle(Kit { kinds, bound }, sizes, costs, rules, rows, load);
+    *place = answer_place(answer);
+    answer_number(answer)
 }
 
 // 0, the four counts and the buffers; or the refusal number, its line, and four counts of 0.
@@ -151,12 +101,12 @@ pub extern "C" fn kitsettle_read(
 ) -> u32
     ensures { ReadIs text.now sizes.old costs.old swaps.old loads.old result sizes.new costs.new swaps.new loads.new (record { kinds = kinds.new; bound = bound.new; swaps = swap_count.new; loads = load_count.new }) line.new }
 {
-    let a = sheet::read_sheet(text, sizes, costs, swaps, loads);
-    let c = read_counts(a);
-    *kinds = c.kinds;
-    *bound = c.bound;
-    *swap_count = c.swaps;
-    *load_count = c.loads;
-    *line = read_line(a);
-    read_number(a)
+    let answer = sheet::read_sheet(text, sizes, costs, swaps, loads);
+    let counts = answer.unwrap_or_default();
+    *kinds = counts.kinds;
+    *bound = counts.bound;
+    *swap_count = counts.swaps;
+    *load_count = counts.loads;
+    *line = answer_place(answer);
+    answer_number(answer)
 }

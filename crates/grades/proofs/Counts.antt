@@ -1,11 +1,7 @@
 -- What a row makes of the least load that holds its head and another, count by count.
 -- Assumes nothing.
-use Prim.Native.Nat.{ℕ, ◌+◌, ◌-◌, ◌≤◌, ◌<◌, max}
-use mathlib.Core.Path.{◌≡◌, sym, ◌∙◌}
-use mathlib.Core.List.{List}
-use native.Mathlib.Omega.{arith}
-use native.Mathlib.Nat.{le-max_left}
-use lib.ListN.{length, get_or}
+use Rattle.std.specs.Prelude.{ℕ, ◌+◌, ◌-◌, ◌≤◌, ◌<◌, ◌≡◌, List, length, get_or}
+use Rattle.std.proofs.Common.{max, sym, ◌∙◌, arith}
 use Rattle.terms.specs.Load.{Fits}
 use Rattle.terms.specs.Swaps.{exchange}
 use Rattle.laws.specs.Load.{join, UpTo, length_both, both_at, join_left, up_to_at}
@@ -22,9 +18,6 @@ module _ (h t q : List ℕ) (eh : length h ≡ 12) (et : length t ≡ 12) (eq : 
   made_long = exchange_long h t (join h q) fit (et ∙ sym both_long) ∙ both_long
 
   module _ (k m : ℕ) (l : k < 12) (e : m ≡ max (get_or h k 0) (get_or q k 0)) where
-    pub made_sub : get_or h k 0 ≤ m
-    made_sub = omega (arith, le-max_left (get_or h k 0) (get_or q k 0))
-
     pub made_at : m - get_or h k 0 + get_or t k 0 ≡ get_or (exchange h t (join h q)) k 0
     made_at =
         let there : get_or (join h q) k 0 ≡ m = both_at max h q k (omega arith) (omega arith) ∙ sym e in

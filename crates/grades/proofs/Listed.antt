@@ -1,25 +1,26 @@
 -- What the loop over the listed pairs of a grade keeps.
 -- Assumes nothing.
-use Prim.Native.Nat.{ℕ, ◌+◌, ◌*◌, ◌/◌, ◌%◌, ◌≤◌, ◌<◌}
-use mathlib.Core.Path.{◌≡◌, refl, ap, ap₂, sym, subst, ◌∙◌}
-use mathlib.Core.List.{List, ◌++◌}
-use native.Mathlib.Omega.{arith}
-use lib.ListN.{length, get_or, length-append, get_or-append}
+use Rattle.std.specs.Prelude.{ℕ, ◌≤◌, ◌<◌, ◌≡◌, refl, List, [], ◌∷◌, ◌++◌, length, get_or}
+use Rattle.std.proofs.Common.{ap, ap₂, sym, subst, ◌∙◌, arith, length-append}
+use lib.ListN.{get_or-append}
+use mathlib.Core.List.Memᴰ
 use Rattle.terms.specs.Load.{grade}
-use Rattle.terms.specs.Swaps.{exchange}
+use Rattle.terms.specs.Swaps.{◌∈◌, Swap, exchange}
 use Rattle.terms.specs.Table.{Row}
-use Rattle.terms.specs.Flat.{left_at, right_at, row_at, table_of}
 use Rattle.laws.specs.Load.{join, join_comm}
 use Rattle.theory.specs.Kit.{Kit}
 use Rattle.theory.specs.Rows.{Row as RowOf}
 use Rattle.theory.specs.Index.{at_mem}
 use Rattle.theory.specs.Complete.{left_side, right_side, pair_rel}
 use Rattle.rack.specs.Racked.{Loaded}
-use Rattle.pairs.specs.Pairs.{common}
+use Rattle.rack.specs.Rows.{blank, head_at, tail_at}
+use Rattle.pairs.specs.declared.Pair.{Pair}
+use Rattle.pairs.specs.Pairs.{common, Entry}
 use Rattle.bridge.specs.Instance.{Load}
-use Rattle.bridge.specs.Rows.{plain}
-use Rattle.growth.specs.Setting.{KitOf, RelOf, alike_of, table_long, row_is}
-use Rattle.growth.specs.Grade.{no_row, Grows, grows_none, grows_map, PairsJoined, common_grade}
+use Rattle.bridge.specs.Rows.{plain, plain_table}
+use Rattle.growth.specs.Setting.{no_row, KitOf, RelOf, alike_of, table_long, row_is}
+use Rattle.growth.specs.Grade.{Grows, grows_none, grows_map, PairsJoined, common_grade}
+use Rattle.growth.specs.End.{common_is as common_below}
 use Rattle.growth.specs.Meets.{Meets}
 use Rattle.growth.specs.Turns.{left_made, right_made, pair_turn, pair_skip}
 use Rattle.growth.specs.State.{JoinedIn, Within, made, Listing, PairsDone}
@@ -27,50 +28,47 @@ use Rattle.grades.proofs.Going.{within_now, within_sound}
 
 -- ---- the rows below the grade, in the working table
 
-module _ {weights swaps stamps : List ℕ} {count g : ℕ} {table : List ℕ} {rows : ℕ} (w : Within weights swaps stamps count g table rows) where
+module _ {weights : List ℕ} {sheet : List Swap} {stamps : List ℕ} {g : ℕ} {T : List Row} (w : Within weights sheet stamps g T) where
   abbrev all : List (RowOf (Load 12))
   all = w.low ++ w.fresh
 
   abbrev at : ℕ → RowOf (Load 12)
   at p = get_or w.low p no_row
 
-  low_in : (p : ℕ) → p < length w.low → p < rows
-  low_in p l = omega (arith, table_long all no_row table rows w.is, length-append w.low w.fresh)
+  low_in : (p : ℕ) → p < length w.low → p < length T
+  low_in p l = omega (arith, table_long all T w.is, length-append w.low w.fresh)
 
-  low_row : (p : ℕ) → p < length w.low → plain (at p) ≡ row_at 12 table p
+  low_row : (p : ℕ) → p < length w.low → plain (at p) ≡ get_or T p blank
   low_row p l =
       ap plain (sym (get_or-append w.low w.fresh no_row p l))
-      ∙ row_is all no_row table rows w.is p (low_in p l)
+      ∙ row_is all T w.is p
 
-  pub low_left : (p : ℕ) → p < length w.low → (at p).head.0 ≡ left_at 12 table p
+  pub low_left : (p : ℕ) → p < length w.low → (at p).head.0 ≡ head_at T p
   low_left p l = ap (λ (a : Row). a.head) (low_row p l)
 
-  pub low_right : (p : ℕ) → p < length w.low → (at p).tail.0 ≡ right_at 12 table p
+  pub low_right : (p : ℕ) → p < length w.low → (at p).tail.0 ≡ tail_at T p
   low_right p l = ap (λ (a : Row). a.tail) (low_row p l)
 
   module _ (p j : ℕ) (l : p < length w.low) (m : j < length w.low) where
-    pub both_common : join (at p).head.0 (at j).head.0 ≡ common table p j
+    pub both_common : join (at p).head.0 (at j).head.0 ≡ common T p j
     both_common = ap₂ join (low_left p l) (low_left j m)
 
-    pub common_is : common_grade weights w.working.setting g w.low p j ≡ grade w.sizes (common table p j)
-    common_is = ap (grade w.sizes) both_common
-
-    pub first_made : exchange (at p).head.0 (at p).tail.0 (join (at p).head.0 (at j).head.0) ≡ made table p j
+    pub first_made : exchange (at p).head.0 (at p).tail.0 (join (at p).head.0 (at j).head.0) ≡ made T p j
     first_made = rw (low_left p l, low_right p l, low_left j m)
 
-    pub second_made : exchange (at j).head.0 (at j).tail.0 (join (at p).head.0 (at j).head.0) ≡ made table j p
+    pub second_made : exchange (at j).head.0 (at j).tail.0 (join (at p).head.0 (at j).head.0) ≡ made T j p
     second_made = ap (exchange (at j).head.0 (at j).tail.0) (join_comm (at p).head.0 (at j).head.0) ∙ rw (low_left p l, low_right j m, low_left j m)
 
     -- what the rows of the working table make, joined, as the theory asks
     pub meets_made :
-        (T U : List Row) → Meets weights T (made table p j) (made table j p) U
-        → Meets weights T (exchange (at p).head.0 (at p).tail.0 (join (at p).head.0 (at j).head.0)) (exchange (at j).head.0 (at j).tail.0 (join (at p).head.0 (at j).head.0)) U
-    meets_made T U m =
-        subst (λ (z : List ℕ). Meets weights T (exchange (at p).head.0 (at p).tail.0 (join (at p).head.0 (at j).head.0)) z U) (sym second_made)
-        (subst (λ (z : List ℕ). Meets weights T z (made table j p) U) (sym first_made) m)
+        (V U : List Row) → Meets weights V (made T p j) (made T j p) U
+        → Meets weights V (exchange (at p).head.0 (at p).tail.0 (join (at p).head.0 (at j).head.0)) (exchange (at j).head.0 (at j).tail.0 (join (at p).head.0 (at j).head.0)) U
+    meets_made V U m =
+        subst (λ (z : List ℕ). Meets weights V (exchange (at p).head.0 (at p).tail.0 (join (at p).head.0 (at j).head.0)) z U) (sym second_made)
+        (subst (λ (z : List ℕ). Meets weights V z (made T j p) U) (sym first_made) m)
 
     -- both are loads of the grade
-    module _ (fits : rows * 24 ≤ length table) (q : grade w.sizes (common table p j) ≡ g) where
+    module _ (q : grade w.sizes (common T p j) ≡ g) where
       abbrev K : Kit
       K = KitOf weights w.working.setting
 
@@ -80,156 +78,124 @@ module _ {weights swaps stamps : List ℕ} {count g : ℕ} {table : List ℕ} {r
       rel : R (Kit.join K (at p).head (at j).head) (left_side K R (alike_of weights w.working.setting) g w.low (at p) (at j)) × R (Kit.join K (at p).head (at j).head) (right_side K R (alike_of weights w.working.setting) g w.low (at p) (at j))
       rel = pair_rel K R (alike_of weights w.working.setting) g w.low w.new.low (at p) (at j) (at_mem no_row w.low p l) (at_mem no_row w.low j m)
 
-      loaded_of : (x : Load 12) (y : List ℕ) → x.0 ≡ y → R (Kit.join K (at p).head (at j).head) x → Loaded weights table rows y
+      loaded_of : (x : Load 12) (y : List ℕ) → x.0 ≡ y → R (Kit.join K (at p).head (at j).head) x → Loaded weights T y
       unfolding within_sound
       loaded_of x y e r = record {
-        sound = within_sound w fits;
+        sound = within_sound w;
         long = ap length (sym e) ∙ x.1;
         within = omega (arith, ap (grade w.sizes) e, (alike_of weights w.working.setting).rel_grade (Kit.join K (at p).head (at j).head) x r, ap (grade w.sizes) both_common, w.bounded);
       }
 
-      pub first_loaded : Loaded weights table rows (made table p j)
+      pub first_loaded : Loaded weights T (made T p j)
       first_loaded =
-          loaded_of (left_side K R (alike_of weights w.working.setting) g w.low (at p) (at j)) (made table p j)
+          loaded_of (left_side K R (alike_of weights w.working.setting) g w.low (at p) (at j)) (made T p j)
           (left_made weights w.working.setting g w.low (at p) (at j) ∙ first_made) rel.0
 
-      pub second_loaded : Loaded weights table rows (made table j p)
+      pub second_loaded : Loaded weights T (made T j p)
       second_loaded =
-          loaded_of (right_side K R (alike_of weights w.working.setting) g w.low (at p) (at j)) (made table j p)
+          loaded_of (right_side K R (alike_of weights w.working.setting) g w.low (at p) (at j)) (made T j p)
           (right_made weights w.working.setting g w.low (at p) (at j) ∙ second_made) rel.1
 
 -- ---- the loop
 
-pub record PairsGoing (weights due mates : List ℕ) (pairs g : ℕ) (table₀ : List ℕ) (rows room : ℕ) (table : List ℕ) (now k : ℕ) : Type 0 where
-  pub long : length table ≡ length table₀
-  pub more : rows ≤ now
-  pub roomy : now ≤ room
-  pub up_to : k ≤ pairs
+-- what stands past the end of a list of pairs
+abbrev pub no_pair : Pair
+no_pair = record { due = 0; first = 0; second = 0 }
+
+pub pair_in : (list : List Pair) (k : ℕ) → k < length list → get_or list k no_pair ∈ list
+pair_in list k l = at_mem no_pair list k l
+
+-- the pairs `done` are joined
+pub record PairsGoing (weights : List ℕ) (list : List Pair) (g : ℕ) (T₀ : List Row) (room : ℕ) (T : List Row) (done : List Pair) : Type 0 where
+  pub more : length T₀ ≤ length T
+  pub roomy : length T ≤ room
   pub grows :
-      {swaps stamps : List ℕ} {count : ℕ} (q : Listing weights swaps stamps count g due mates pairs table₀ rows)
-      → Grows weights q.within.working.setting g q.within.low q.within.fresh (table_of 12 table now) (PairsJoined weights q.within.working.setting g q.within.low mates k)
+      {sheet : List Swap} {stamps : List ℕ} (q : Listing weights sheet stamps g list T₀)
+      → Grows weights q.within.working.setting g q.within.low q.within.fresh T (PairsJoined weights q.within.working.setting g q.within.low done)
 
--- the pair that stands at place k of the list
-module _ {weights swaps stamps : List ℕ} {count g : ℕ} {due mates : List ℕ} {pairs : ℕ} {table₀ : List ℕ} {rows : ℕ} (q : Listing weights swaps stamps count g due mates pairs table₀ rows) (k : ℕ) (l : k < pairs) where
-  abbrev pub one : ℕ
-  one = (q.list.entries k l).0
+-- a pair that stands on the list
+module _ {weights : List ℕ} {sheet : List Swap} {stamps : List ℕ} {g : ℕ} {list : List Pair} {T₀ : List Row} (q : Listing weights sheet stamps g list T₀) (a : Pair) (m : a ∈ list) where
+  abbrev entry : Entry q.within.sizes (plain_table q.within.low) (length q.within.low) a
+  entry = q.entered.entries a m
 
-  abbrev pub other : ℕ
-  other = (q.list.entries k l).1
+  first_below : a.first < length q.within.low
+  first_below = omega (arith, entry.apart, entry.below)
 
-  pub below_other : one < other
-  below_other = (q.list.entries k l).2
-
-  pub other_below : other < length q.within.low
-  other_below = (q.list.entries k l).3
-
-  pub mate_is : get_or mates k 0 ≡ one * 256 + other
-  mate_is = (q.list.entries k l).4
-
-  pub due_is : get_or due k 0 ≡ grade q.within.sizes (common table₀ one other)
-  due_is = (q.list.entries k l).5
-
-  pub one_is : get_or mates k 0 / 256 ≡ one
-  one_is = omega (arith, mate_is, other_below, q.few)
-
-  pub other_is : get_or mates k 0 % 256 ≡ other
-  other_is = omega (arith, mate_is, other_below, q.few)
+  due_level : a.due ≡ common_grade weights q.within.working.setting g q.within.low a.first a.second
+  due_level = entry.graded ∙ ap (grade q.within.sizes) (sym (common_below weights q.within.working.setting q.within.low (plain_table q.within.low) refl a.first a.second))
 
   -- the heads of the rows below are where they were
-  common_now : (table : List ℕ) (now : ℕ) {J : List (RowOf (Load 12)) → Type 0} → Grows weights q.within.working.setting g q.within.low q.within.fresh (table_of 12 table now) J → common table one other ≡ common table₀ one other
+  due_now : (T : List Row) {J : List (RowOf (Load 12)) → Type 0} → Grows weights q.within.working.setting g q.within.low q.within.fresh T J → a.due ≡ grade q.within.sizes (common T a.first a.second)
   unfolding within_now
-  common_now table now h =
-      sym (both_common (within_now {table = table} {now = now} q.within h) one other (omega (arith, below_other, other_below)) other_below) ∙ both_common q.within one other (omega (arith, below_other, other_below)) other_below
+  due_now T h = due_level ∙ ap (grade q.within.sizes) (both_common (within_now {T = T} q.within h) a.first a.second first_below entry.below)
 
-  pub due_now : (table : List ℕ) (now : ℕ) {J : List (RowOf (Load 12)) → Type 0} → Grows weights q.within.working.setting g q.within.low q.within.fresh (table_of 12 table now) J → get_or due k 0 ≡ grade q.within.sizes (common table one other)
-  due_now table now h = due_is ∙ ap (grade q.within.sizes) (sym (common_now table now h))
-
-module _ {weights due mates : List ℕ} {pairs g : ℕ} {table₀ : List ℕ} {rows room : ℕ} where
-  pub pairs_start : rows ≤ room → PairsGoing weights due mates pairs g table₀ rows room table₀ rows 0
+module _ {weights : List ℕ} {list : List Pair} {g : ℕ} {T₀ : List Row} {room : ℕ} where
+  pub pairs_start : length T₀ ≤ room → PairsGoing weights list g T₀ room T₀ []
   pairs_start l = record {
-    long = refl;
     more = omega arith;
     roomy = l;
-    up_to = omega arith;
     grows = λ q.
         let w = q.within in
-        grows_none weights w.working.setting g w.low w.fresh (table_of 12 table₀ rows) (PairsJoined weights w.working.setting g w.low mates 0) w.is w.new w.apart (λ i p j l. absurd (omega arith));
+        grows_none weights w.working.setting g w.low w.fresh T₀ (PairsJoined weights w.working.setting g w.low []) w.is w.new w.apart (λ a m. absurd (Memᴰ.not-nil m));
   }
 
-  module _ {table : List ℕ} {now k : ℕ} (s : PairsGoing weights due mates pairs g table₀ rows room table now k) (l : k < pairs) where
+  module _ {T : List Row} {done : List Pair} (s : PairsGoing weights list g T₀ room T done) (a : Pair) (m : a ∈ list) where
     turned :
-        {after : List ℕ} {r : ℕ} {p j : ℕ} → get_or due k 0 ≡ g → p ≡ get_or mates k 0 / 256 → j ≡ get_or mates k 0 % 256 → JoinedIn weights table now (made table p j) (made table j p) after r
-        → {swaps stamps : List ℕ} {count : ℕ} (q : Listing weights swaps stamps count g due mates pairs table₀ rows)
-        → Grows weights q.within.working.setting g q.within.low q.within.fresh (table_of 12 after r) (PairsJoined weights q.within.working.setting g q.within.low mates (k + 1))
+        {after : List Row} → a.due ≡ g → JoinedIn weights T (made T a.first a.second) (made T a.second a.first) after
+        → {sheet : List Swap} {stamps : List ℕ} (q : Listing weights sheet stamps g list T₀)
+        → Grows weights q.within.working.setting g q.within.low q.within.fresh after (PairsJoined weights q.within.working.setting g q.within.low (done ++ a ∷ []))
     unfolding within_now
-    turned {after} {r} {p} {j} e ep ej joined q =
+    turned {after} e joined q =
         let h = s.grows q in
         let w = q.within in
-        let p< : one q k l < length w.low = omega (arith, below_other q k l, other_below q k l) in
-        let level : common_grade weights w.working.setting g w.low (one q k l) (other q k l) ≡ g = common_is w (one q k l) (other q k l) p< (other_below q k l) ∙ sym (due_is q k l) ∙ e in
-        let i : Meets weights (table_of 12 table now) (made table (one q k l) (other q k l)) (made table (other q k l) (one q k l)) (table_of 12 after r) = subst (λ (b : ℕ). Meets weights (table_of 12 table now) (made table (one q k l) b) (made table b (one q k l)) (table_of 12 after r)) (ej ∙ other_is q k l) (subst (λ (a : ℕ). Meets weights (table_of 12 table now) (made table a j) (made table j a) (table_of 12 after r)) (ep ∙ one_is q k l) joined.meets) in
-        pair_turn weights w.working.setting g w.low w.fresh mates k (one q k l) (other q k l) (below_other q k l) (other_below q k l) q.few (mate_is q k l) (table_of 12 table now) (table_of 12 after r) h level
-        (meets_made (within_now {table = table} {now = now} w h) (one q k l) (other q k l) p< (other_below q k l) (table_of 12 table now) (table_of 12 after r) i)
+        let n = entry q a m in
+        let level : common_grade weights w.working.setting g w.low a.first a.second ≡ g = sym (due_level q a m) ∙ e in
+        pair_turn weights w.working.setting g w.low w.fresh done a n.apart n.below T after h level
+        (meets_made (within_now {T = T} w h) a.first a.second (first_below q a m) n.below T after joined.meets)
 
-    module _ {after : List ℕ} {r p j : ℕ} (e : get_or due k 0 ≡ g) (ep : p ≡ get_or mates k 0 / 256) (ej : j ≡ get_or mates k 0 % 256) (joined : JoinedIn weights table now (made table p j) (made table j p) after r) where
-      pub pairs_turn : r ≤ room → PairsGoing weights due mates pairs g table₀ rows room after r (k + 1)
-      pairs_turn m = record { long = joined.long ∙ s.long; more = omega (arith, joined.more, s.more); roomy = m; up_to = omega arith; grows = λ q. turned e ep ej joined q }
+    module _ {after : List Row} (e : a.due ≡ g) (joined : JoinedIn weights T (made T a.first a.second) (made T a.second a.first) after) where
+      pub pairs_turn : length after ≤ room → PairsGoing weights list g T₀ room after (done ++ a ∷ [])
+      pairs_turn l = record { more = omega (arith, joined.more, s.more); roomy = l; grows = λ q. turned e joined q }
 
-      pub pairs_full : room < r → PairsDone weights due mates pairs g table₀ rows room after r
-      pairs_full m = record {
-        long = joined.long ∙ s.long;
+      pub pairs_full : room < length after → PairsDone weights list g T₀ room after
+      pairs_full l = record {
         more = omega (arith, joined.more, s.more);
         one = omega (arith, joined.one, s.roomy);
         grows = λ q.
             let w = q.within in
-            grows_map weights w.working.setting g w.low w.fresh (table_of 12 after r) (PairsJoined weights w.working.setting g w.low mates (k + 1)) (λ M. r ≤ room → PairsJoined weights w.working.setting g w.low mates pairs M)
-            (λ M new h l. absurd (omega arith)) (turned e ep ej joined q);
+            grows_map weights w.working.setting g w.low w.fresh after (PairsJoined weights w.working.setting g w.low (done ++ a ∷ [])) (λ M. length after ≤ room → PairsJoined weights w.working.setting g w.low list M)
+            (λ M new h k. absurd (omega arith)) (turned e joined q);
       }
 
     -- what joining the pair asks
     pub pairs_asked :
-        {swaps stamps : List ℕ} {count : ℕ} (q : Listing weights swaps stamps count g due mates pairs table₀ rows) → room * 24 + 24 ≤ length table₀ → get_or due k 0 ≡ g
-        → (get_or mates k 0 / 256 < now) × (get_or mates k 0 % 256 < now) × (now * 24 + 24 ≤ length table) × Loaded weights table now (made table (get_or mates k 0 / 256) (get_or mates k 0 % 256)) × Loaded weights table now (made table (get_or mates k 0 % 256) (get_or mates k 0 / 256))
+        {sheet : List Swap} {stamps : List ℕ} (q : Listing weights sheet stamps g list T₀) → room ≤ 256 → a.due ≡ g
+        → (a.first < length T) × (a.second < length T) × (length T ≤ 256) × Loaded weights T (made T a.first a.second) × Loaded weights T (made T a.second a.first)
     unfolding within_now
-    pairs_asked q room_in e =
+    pairs_asked q few e =
         let w = q.within in
-        let n = within_now {table = table} {now = now} w (s.grows q) in
-        let p< : one q k l < length w.low = omega (arith, below_other q k l, other_below q k l) in
-        let in_table : now * 24 ≤ length table = omega (arith, s.roomy, s.long) in
-        let level : grade w.sizes (common table (one q k l) (other q k l)) ≡ g = sym (due_now q k l table now (s.grows q)) ∙ e in
-        let p : one q k l ≡ get_or mates k 0 / 256 = sym (one_is q k l) in
-        let j : other q k l ≡ get_or mates k 0 % 256 = sym (other_is q k l) in (
-          subst (λ (a : ℕ). a < now) p (low_in n (one q k l) p<),
-          subst (λ (a : ℕ). a < now) j (low_in n (other q k l) (other_below q k l)),
-          omega (arith, s.roomy, s.long),
-          subst (λ (b : ℕ). Loaded weights table now (made table (get_or mates k 0 / 256) b)) j (subst (λ (a : ℕ). Loaded weights table now (made table a (other q k l))) p (first_loaded n (one q k l) (other q k l) p< (other_below q k l) in_table level)),
-          subst (λ (b : ℕ). Loaded weights table now (made table b (get_or mates k 0 / 256))) j (subst (λ (a : ℕ). Loaded weights table now (made table (other q k l) a)) p (second_loaded n (one q k l) (other q k l) p< (other_below q k l) in_table level)),
-        )
+        let n = within_now {T = T} w (s.grows q) in
+        let p< : a.first < length w.low = first_below q a m in
+        let j< : a.second < length w.low = (entry q a m).below in
+        let level : grade w.sizes (common T a.first a.second) ≡ g = sym (due_now q a m T (s.grows q)) ∙ e in
+        (low_in n a.first p<, low_in n a.second j<, omega (arith, s.roomy), first_loaded n a.first a.second p< j< level, second_loaded n a.first a.second p< j< level)
 
-    pub pairs_skip : (get_or due k 0 ≡ g → ⊥) → PairsGoing weights due mates pairs g table₀ rows room table now (k + 1)
+    pub pairs_skip : (a.due ≡ g → ⊥) → PairsGoing weights list g T₀ room T (done ++ a ∷ [])
     pairs_skip n = record {
-      long = s.long;
       more = s.more;
       roomy = s.roomy;
-      up_to = omega arith;
       grows = λ q.
           let w = q.within in
-          let p< : one q k l < length w.low = omega (arith, below_other q k l, other_below q k l) in
-          pair_skip weights w.working.setting g w.low w.fresh mates k (one q k l) (other q k l) (below_other q k l) (other_below q k l) q.few (mate_is q k l) (table_of 12 table now)
-          (λ d. n (due_is q k l ∙ sym (common_is w (one q k l) (other q k l) p< (other_below q k l)) ∙ d)) (s.grows q);
+          let o = entry q a m in
+          pair_skip weights w.working.setting g w.low w.fresh done a o.apart o.below T (λ d. n (due_level q a m ∙ d)) (s.grows q);
     }
 
-  pub pairs_end : {table : List ℕ} {now k : ℕ} → PairsGoing weights due mates pairs g table₀ rows room table now k → pairs ≤ k → PairsDone weights due mates pairs g table₀ rows room table now
-  pairs_end {table} {now} {k} s l = record {
-    long = s.long;
+  pub pairs_end : {T : List Row} → PairsGoing weights list g T₀ room T list → PairsDone weights list g T₀ room T
+  pairs_end {T} s = record {
     more = s.more;
     one = omega (arith, s.roomy);
     grows = λ q.
         let w = q.within in
-        grows_map weights w.working.setting g w.low w.fresh (table_of 12 table now) (PairsJoined weights w.working.setting g w.low mates k) (λ M. now ≤ room → PairsJoined weights w.working.setting g w.low mates pairs M)
-        (λ M new h m i p j n. h i p j (omega (arith, s.up_to))) (s.grows q);
+        grows_map weights w.working.setting g w.low w.fresh T (PairsJoined weights w.working.setting g w.low list) (λ M. length T ≤ room → PairsJoined weights w.working.setting g w.low list M)
+        (λ M new h l. h) (s.grows q);
   }
-
-  pub pairs_as : {table table' : List ℕ} {now now' k : ℕ} → table ≡ table' → now ≡ now' → PairsGoing weights due mates pairs g table₀ rows room table' now' k → PairsGoing weights due mates pairs g table₀ rows room table now k
-  pairs_as {table} {now' = now'} {k = k} e f s =
-      subst (λ (n : ℕ). PairsGoing weights due mates pairs g table₀ rows room table n k) (sym f) (subst (λ (t : List ℕ). PairsGoing weights due mates pairs g table₀ rows room t now' k) (sym e) s)

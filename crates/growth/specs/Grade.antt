@@ -1,32 +1,24 @@
 -- One grade, in the theory: what the loops over the swaps and over the listed pairs keep, row by row.
 -- Assumes nothing.
-use Rattle.std.specs.Prelude.{ℕ, ◌+◌, ◌*◌, ◌<◌, ◌≡◌, refl, List, [], ◌∷◌, ◌++◌, length, get_or}
+use Rattle.std.specs.Prelude.{ℕ, ◌<◌, ◌≡◌, List, ◌++◌, length, get_or}
 use Rattle.terms.specs.Load.{grade}
+use Rattle.terms.specs.Swaps.{◌∈◌, Swap}
 use Rattle.terms.specs.Table.{Row}
 use Rattle.laws.specs.Load.{join}
 use Rattle.theory.specs.Kit.{Kit}
-use Rattle.theory.specs.Rows.{Row as RowOf, row}
+use Rattle.theory.specs.Rows.{Row as RowOf}
 use Rattle.theory.specs.Settle.{nf}
 use Rattle.theory.specs.Table.{Alike}
 use Rattle.theory.specs.Critical.{New}
 use Rattle.theory.specs.Grow.{Later, later_refl, later_trans}
 use Rattle.theory.specs.Complete.{left_side, right_side}
+use Rattle.pairs.specs.declared.Pair.{Pair}
 use Rattle.bridge.specs.Instance.{Load}
 use Rattle.bridge.specs.Rows.{plain_table}
-use Rattle.growth.specs.Setting.{Setting, KitOf, SheetOf, RelOf, alike_of}
+use Rattle.growth.specs.Setting.{Setting, no_row, no_swap, KitOf, SheetOf, RelOf, alike_of}
 use Rattle.growth.specs.Meets.{Apart, Grew}
 
--- the empty load, the row and the swap of it: what stands past the end
-abbrev pub none : Load 12
-none = (0 ∷ 0 ∷ 0 ∷ 0 ∷ 0 ∷ 0 ∷ 0 ∷ 0 ∷ 0 ∷ 0 ∷ 0 ∷ 0 ∷ [], refl)
-
-abbrev pub no_row : RowOf (Load 12)
-no_row = row none none
-
-abbrev pub no_swap : Load 12 × Load 12
-no_swap = (none, none)
-
-module _ {bound : ℕ} {sizes swaps : List ℕ} {count : ℕ} (weights : List ℕ) (s : Setting bound sizes swaps count) (g : ℕ) (T₀ : List (RowOf (Load 12))) where
+module _ {bound : ℕ} {sizes : List ℕ} {sheet : List Swap} (weights : List ℕ) (s : Setting bound sizes sheet) (g : ℕ) (T₀ : List (RowOf (Load 12))) where
   abbrev K : Kit
   K = KitOf weights s
 
@@ -81,6 +73,6 @@ module _ {bound : ℕ} {sizes swaps : List ℕ} {count : ℕ} (weights : List �
   abbrev pub common_grade : ℕ → ℕ → ℕ
   common_grade p j = grade sizes (join (get_or T₀ p no_row).head.0 (get_or T₀ j no_row).head.0)
 
-  -- the first k pairs on the list, as far as their least common load is of this grade
-  abbrev pub PairsJoined : List ℕ → ℕ → List (RowOf (Load 12)) → Type 0
-  PairsJoined mates k M = (i p j : ℕ) → i < k → p < j → j < length T₀ → get_or mates i 0 ≡ p * 256 + j → common_grade p j ≡ g → AlikeMade M p j
+  -- the pairs on the list, as far as their least common load is of this grade
+  abbrev pub PairsJoined : List Pair → List (RowOf (Load 12)) → Type 0
+  PairsJoined list M = (a : Pair) → a ∈ list → a.first < a.second → a.second < length T₀ → common_grade a.first a.second ≡ g → AlikeMade M a.first a.second

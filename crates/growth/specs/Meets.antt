@@ -5,7 +5,7 @@ use Rattle.std.proofs.Common.{ap, sym, subst, ◌∙◌, append_assoc}
 use Rattle.std.proofs.lemmas.List.{map-append}
 use Rattle.terms.specs.Load.{grade}
 use Rattle.terms.specs.Order.{Before}
-use Rattle.terms.specs.Swaps.{Step}
+use Rattle.terms.specs.Swaps.{Step, Swap}
 use Rattle.terms.specs.Table.{Row}
 use Rattle.terms.specs.Settling.{NoneFits}
 use Rattle.laws.specs.Order.{before_laws}
@@ -33,7 +33,7 @@ pub data Meets (weights : List ℕ) (T : List Row) (x y : List ℕ) (U : List Ro
   new_first : (u v : List ℕ) → Walks T x u → Walks T y v → Before (costs_of weights) v u → NoneFits T u → U ≡ T ++ row_of u v ∷ [] → Meets weights T x y U
   new_second : (u v : List ℕ) → Walks T x u → Walks T y v → Before (costs_of weights) u v → NoneFits T v → U ≡ T ++ row_of v u ∷ [] → Meets weights T x y U
 
-module _ {bound : ℕ} {sizes swaps : List ℕ} {count : ℕ} (weights : List ℕ) (s : Setting bound sizes swaps count) (g : ℕ) (T₀ : List (RowOf (Load 12))) where
+module _ {bound : ℕ} {sizes : List ℕ} {sheet : List Swap} (weights : List ℕ) (s : Setting bound sizes sheet) (g : ℕ) (T₀ : List (RowOf (Load 12))) where
   abbrev K : Kit
   K = KitOf weights s
 

@@ -1,74 +1,88 @@
 -- The kit of 12 kinds that completion works on: its sheet, its relation, and its working table in the theory.
 -- Assumes nothing.
-use Rattle.std.specs.Prelude.{ℕ, ◌≤◌, ◌<◌, ◌≡◌, List, length, get_or}
+use Rattle.std.specs.Prelude.{ℕ, ◌≤◌, ◌≡◌, refl, List, [], ◌∷◌, length, get_or}
 use Rattle.std.proofs.Common.{ap, sym, ◌∙◌}
 use Rattle.std.proofs.lemmas.List.{length-map}
 use Rattle.std.proofs.Math.ListN.{get_or-map}
-use Rattle.terms.specs.Load.{grade}
+use Rattle.terms.specs.Load.{zeros, grade}
 use Rattle.terms.specs.Swaps.{◌∈◌, Swap}
 use Rattle.terms.specs.Table.{Row}
-use Rattle.terms.specs.Flat.{left_at, right_at, numbered, swap_at, row_at, table_of}
-use Rattle.laws.specs.Numbered.{numbered_long, item_at}
 use Rattle.theory.specs.Kit.{Kit}
-use Rattle.theory.specs.Rows.{Row as RowOf}
+use Rattle.theory.specs.Rows.{Row as RowOf, row}
 use Rattle.theory.specs.Table.{Alike}
 use Rattle.theory.specs.Complete.{sheet_alike}
 use Rattle.rack.specs.Racked.{costs_of}
+use Rattle.rack.specs.Rows.{head_at, tail_at}
 use Rattle.bridge.specs.Instance.{Load}
 use Rattle.bridge.specs.Rows.{plain, plain_table, plain_swap, plain_sheet, IsSheet, loads_sheet, plain_loads_sheet, loads_even}
 use Rattle.bridge.specs.Regular.{IsKit, loads_kit, ReachOf}
 
 -- sizes, bound and swaps of the working kit
-pub record Setting (bound : ℕ) (sizes swaps : List ℕ) (count : ℕ) : Type 0 where
+pub record Setting (bound : ℕ) (sizes : List ℕ) (swaps : List Swap) : Type 0 where
   pub kit : IsKit 12 sizes
   pub small : bound ≤ 1000
-  pub sheet : IsSheet 12 sizes (numbered (swap_at 12 swaps) 0 count)
+  pub sheet : IsSheet 12 sizes swaps
+
+-- ---- what stands past the end
+
+-- the empty load, the row and the swap of it
+abbrev pub none : Load 12
+none = (0 ∷ 0 ∷ 0 ∷ 0 ∷ 0 ∷ 0 ∷ 0 ∷ 0 ∷ 0 ∷ 0 ∷ 0 ∷ 0 ∷ [], refl)
+
+abbrev pub no_row : RowOf (Load 12)
+no_row = row none none
+
+abbrev pub no_swap : Load 12 × Load 12
+no_swap = (none, none)
+
+-- swap k of a sheet
+abbrev pub swap_of : List Swap → ℕ → Swap
+swap_of sheet k = get_or sheet k (record { left = zeros 12; right = zeros 12 })
 
 -- ---- rows of the working table, by their number
 
-module _ (T : List (RowOf (Load 12))) (d : RowOf (Load 12)) (table : List ℕ) (rows : ℕ) (e : plain_table T ≡ table_of 12 table rows) where
-  pub table_long : length T ≡ rows
-  table_long = sym (length-map T plain) ∙ ap length e ∙ numbered_long (row_at 12 table) 0 rows
+module _ (T : List (RowOf (Load 12))) (U : List Row) (e : plain_table T ≡ U) where
+  pub table_long : length T ≡ length U
+  table_long = sym (length-map T plain) ∙ ap length e
 
-  pub row_is : (i : ℕ) → i < rows → plain (get_or T i d) ≡ row_at 12 table i
-  row_is i l = sym (get_or-map plain T i d) ∙ ap (λ (U : List Row). get_or U i (plain d)) e ∙ item_at (row_at 12 table) (plain d) rows i l
+  pub row_is : (i : ℕ) → plain (get_or T i no_row) ≡ get_or U i (plain no_row)
+  row_is i = sym (get_or-map plain T i no_row) ∙ ap (λ (V : List Row). get_or V i (plain no_row)) e
 
-  pub head_is : (i : ℕ) → i < rows → (get_or T i d).head.0 ≡ left_at 12 table i
-  head_is i l = ap (λ (a : Row). a.head) (row_is i l)
+  pub head_is : (i : ℕ) → (get_or T i no_row).head.0 ≡ head_at U i
+  head_is i = ap (λ (a : Row). a.head) (row_is i)
 
-  pub tail_is : (i : ℕ) → i < rows → (get_or T i d).tail.0 ≡ right_at 12 table i
-  tail_is i l = ap (λ (a : Row). a.tail) (row_is i l)
+  pub tail_is : (i : ℕ) → (get_or T i no_row).tail.0 ≡ tail_at U i
+  tail_is i = ap (λ (a : Row). a.tail) (row_is i)
 
 -- ---- the setting in the theory
 
-module _ {bound : ℕ} {sizes swaps : List ℕ} {count : ℕ} (weights : List ℕ) (s : Setting bound sizes swaps count) where
+module _ {bound : ℕ} {sizes : List ℕ} {sheet : List Swap} (weights : List ℕ) (s : Setting bound sizes sheet) where
   abbrev pub KitOf : Kit
   KitOf = loads_kit (costs_of weights) s.kit
 
   abbrev pub SheetOf : List (Load 12 × Load 12)
-  SheetOf = loads_sheet sizes (numbered (swap_at 12 swaps) 0 count) s.sheet
+  SheetOf = loads_sheet sizes sheet s.sheet
 
   abbrev pub RelOf : Load 12 → Load 12 → Type 0
-  RelOf = ReachOf (costs_of weights) s.kit (numbered (swap_at 12 swaps) 0 count) s.sheet
+  RelOf = ReachOf (costs_of weights) s.kit sheet s.sheet
 
   pub even_of : (p : Load 12 × Load 12) → p ∈ SheetOf → grade sizes p.0.0 ≡ grade sizes p.1.0
-  even_of = loads_even sizes (numbered (swap_at 12 swaps) 0 count) s.sheet
+  even_of = loads_even sizes sheet s.sheet
 
   abbrev pub alike_of : Alike KitOf RelOf
   alike_of = sheet_alike KitOf SheetOf even_of
 
-  pub sheet_is : plain_sheet SheetOf ≡ numbered (swap_at 12 swaps) 0 count
-  sheet_is = plain_loads_sheet sizes (numbered (swap_at 12 swaps) 0 count) s.sheet
+  pub sheet_is : plain_sheet SheetOf ≡ sheet
+  sheet_is = plain_loads_sheet sizes sheet s.sheet
 
-  pub sheet_long : length SheetOf ≡ count
-  sheet_long = sym (length-map SheetOf plain_swap) ∙ ap length sheet_is ∙ numbered_long (swap_at 12 swaps) 0 count
+  pub sheet_long : length SheetOf ≡ length sheet
+  sheet_long = sym (length-map SheetOf plain_swap) ∙ ap length sheet_is
 
-  module _ (e : Load 12 × Load 12) (k : ℕ) (l : k < count) where
-    pub swap_is : plain_swap (get_or SheetOf k e) ≡ swap_at 12 swaps k
-    swap_is = sym (get_or-map plain_swap SheetOf k e) ∙ ap (λ (U : List Swap). get_or U k (plain_swap e)) sheet_is ∙ item_at (swap_at 12 swaps) (plain_swap e) count k l
+  pub swap_is : (k : ℕ) → plain_swap (get_or SheetOf k no_swap) ≡ swap_of sheet k
+  swap_is k = sym (get_or-map plain_swap SheetOf k no_swap) ∙ ap (λ (U : List Swap). get_or U k (plain_swap no_swap)) sheet_is
 
-    pub left_is : (get_or SheetOf k e).0.0 ≡ left_at 12 swaps k
-    left_is = ap (λ (a : Swap). a.left) swap_is
+  pub left_is : (k : ℕ) → (get_or SheetOf k no_swap).0.0 ≡ (swap_of sheet k).left
+  left_is k = ap (λ (a : Swap). a.left) (swap_is k)
 
-    pub right_is : (get_or SheetOf k e).1.0 ≡ right_at 12 swaps k
-    right_is = ap (λ (a : Swap). a.right) swap_is
+  pub right_is : (k : ℕ) → (get_or SheetOf k no_swap).1.0 ≡ (swap_of sheet k).right
+  right_is k = ap (λ (a : Swap). a.right) (swap_is k)

@@ -2,10 +2,12 @@
 // A text of more than 65,536 bytes shows by one byte more; the longest output, of 256 rows and 1,024 loads, has 122,368 bytes.
 #![tactic(auto)]
 
+use arrayvec::ArrayVec;
+
 fn main() {
     let mut text = [0u8; 65537];
-    let mut out = [0u8; 122368];
+    let mut out = ArrayVec::<u8, 122368>::new();
     let n = io::read_full(0, &mut text);
-    let m = answers::answer(&text[..n], &mut out);
-    io::write_all(1, &out[..m]);
+    answers::answer(&text[..n], &mut out);
+    io::write_all(1, out.as_slice());
 }

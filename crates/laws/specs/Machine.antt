@@ -5,7 +5,7 @@
 use Rattle.std.specs.Prelude.{ℕ, ◌+◌, ◌*◌, ◌<◌, ◌≤◌, ◌≡◌, ℤ, pos, negsuc, ◌+ℤ◌, ◌*ℤ◌, List, length, get_or, drop}
 use Rattle.std.proofs.Common.{sym, ap, ap₂, subst, ◌∙◌, arith, mul-le-mul, add-mul, le_of_lt, to_z, of_z, SFits}
 use Rattle.std.proofs.Math.IntN.{+ℤ_assoc}
-use Rattle.std.specs.Int.Signed.{lt_z}
+use Rattle.std.specs.Int.Signed.{lt_z, mag}
 use Rattle.terms.specs.Order.{cost}
 use Rattle.laws.specs.Walk.{cost_next}
 use Rattle.std.specs.Int.{Width, w32, w64}
@@ -52,6 +52,11 @@ test_read_left w a b f = ap (λ (z : ℤ). lt_z z b) (to_z-of_z w a f)
 
 pub test_read_right : (w : Width) (a b : ℤ) → SFits w b → lt_z a (to_z w (of_z w b)) ≡ lt_z a b
 test_read_right w a b f = ap (λ (z : ℤ). lt_z a z) (to_z-of_z w b f)
+
+-- a signed local that holds a number that is not below 0
+pub reads_pos : (z : ℤ) (n : ℕ) → z ≡ pos n → mag z < 9223372036854775808 → (to_z w64 (of_z w64 z) ≡ pos n) × (n < 9223372036854775808)
+reads_pos z n e h =
+    (to_z-of_z w64 z (record { sfits = h }) ∙ e, subst (λ (k : ℤ). mag k < 9223372036854775808) e h)
 
 -- ---- one turn of a sum of terms, at i of at most 12
 

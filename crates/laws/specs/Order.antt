@@ -2,12 +2,19 @@
 --     before_laws          all that is known of it. A change of the order changes `Before` and this one line
 -- An order is put together of steps: `by_cost` puts a row of costs in front of an order that settles the ties, and keeps the laws.
 -- Assumes nothing.
-use Rattle.std.specs.Prelude.{ℕ, zero, suc, ◌+◌, ◌*◌, ◌-◌, ◌^◌, ◌≤◌, ◌<◌, ◌≡◌, refl, List, [], ◌∷◌, map, length, ℤ, pos, ◌+ℤ◌, ◌*ℤ◌, ◌<ℤ◌}
+use Rattle.std.specs.Prelude.{ℕ, zero, suc, ◌+◌, ◌*◌, ◌-◌, ◌^◌, ◌≤◌, ◌<◌, ◌≡◌, refl, List, [], ◌∷◌, map, length, Option, Some, ℤ, pos, ◌+ℤ◌, ◌*ℤ◌, ◌<ℤ◌}
 use Rattle.std.proofs.Common.{sym, ap₂, subst, ◌∙◌, inl, inr, arith, mul-add, mul_comm, pow-suc, mul-le-mul_left}
 use Rattle.std.proofs.Math.Path.{ap}
+use Rattle.std.specs.Ordering.{MatchOrdering, nat_cmp, ordering_then, partial_ordering_then, is_some_and, is_lt}
+use Rattle.std.specs.Cmp.Lexicographic.{slice_cmp, slice_partial_cmp}
+use Rattle.std.specs.declared.cmp.Ordering.{Ordering}
+use Rattle.std.specs.declared.cmp.Ordering.TheVariants.{Less, Equal, Greater}
+use Rattle.std.proofs.lemmas.Cmp.{ranked}
 use Rattle.std.proofs.Math.Nat.{suc-mul, pow-zero, mul-le-mul_right}
+use Rattle.terms.specs.Decides.{Decides}
 use Rattle.terms.specs.Load.{plus, grade}
 use Rattle.terms.specs.Order.{cost, Lex, ByCost, Before}
+use Rattle.laws.specs.Decides.{decides_yes, decides_no}
 use Rattle.laws.specs.Load.{grade_plus, UpTo}
 use Rattle.laws.specs.Signed.{up, down, same, lt_reads, reads_lt, plus_reads, times_up, times_down}
 
@@ -72,6 +79,46 @@ lex_compare (x ∷ xs) (y ∷ ys) e = go (compare_ℕ x y) (lex_compare xs ys (s
     go (equal p) (equal q) = equal (ap₂ ◌∷◌ p q)
     go (equal p) (second l) = second (inr (sym p, l))
 
+-- what `cmp` answers of two loads of one length
+pub lex_ordered : (x y : List ℕ) → length x ≡ length y → MatchOrdering (slice_cmp nat_cmp x y) (Lex x y) (x ≡ y) (Lex y x)
+lex_ordered [] [] e = refl
+lex_ordered [] (y ∷ ys) e = absurd (omega arith)
+lex_ordered (x ∷ xs) [] e = absurd (omega arith)
+lex_ordered (x ∷ xs) (y ∷ ys) e =
+    here (nat_cmp x y) (ranked x y (nat_cmp x y) refl) (slice_cmp nat_cmp xs ys) (lex_ordered xs ys (suc_inj e))
+  where
+    rest : x ≡ y → (o : Ordering) → MatchOrdering o (Lex xs ys) (xs ≡ ys) (Lex ys xs) → MatchOrdering o (Lex (x ∷ xs) (y ∷ ys)) (x ∷ xs ≡ y ∷ ys) (Lex (y ∷ ys) (x ∷ xs))
+    rest d Less h = inr (d, h)
+    rest d Equal h = ap₂ ◌∷◌ d h
+    rest d Greater h = inr (sym d, h)
+
+    here : (o : Ordering) → MatchOrdering o (x < y) (x ≡ y) (y < x) → (r : Ordering) → MatchOrdering r (Lex xs ys) (xs ≡ ys) (Lex ys xs) → MatchOrdering (ordering_then o r) (Lex (x ∷ xs) (y ∷ ys)) (x ∷ xs ≡ y ∷ ys) (Lex (y ∷ ys) (x ∷ xs))
+    here Less l r h = inl l
+    here Equal d r h = rest d r h
+    here Greater l r h = inl l
+
+-- `partial_cmp` answers what `cmp` does
+pub then_partial : (o r : Ordering) (p : Option Ordering) → p ≡ Some r → partial_ordering_then (Some o) p ≡ Some (ordering_then o r)
+then_partial Less r p e = refl
+then_partial Equal r p e = e
+then_partial Greater r p e = refl
+
+pub lex_partial : (x y : List ℕ) → slice_partial_cmp (λ a b. Some (nat_cmp a b)) x y ≡ Some (slice_cmp nat_cmp x y)
+lex_partial [] [] = refl
+lex_partial [] (y ∷ ys) = refl
+lex_partial (x ∷ xs) [] = refl
+lex_partial (x ∷ xs) (y ∷ ys) = then_partial (nat_cmp x y) (slice_cmp nat_cmp xs ys) _ (lex_partial xs ys)
+
+-- `<` of two loads of one length decides `Lex`
+pub lex_tested : (x y : List ℕ) → length x ≡ length y → Decides (Lex x y) (is_some_and is_lt (slice_partial_cmp (λ a b. Some (nat_cmp a b)) x y))
+lex_tested x y e =
+    subst (λ (o : Option Ordering). Decides (Lex x y) (is_some_and is_lt o)) (sym (lex_partial x y)) (go (slice_cmp nat_cmp x y) (lex_ordered x y e))
+  where
+    go : (o : Ordering) → MatchOrdering o (Lex x y) (x ≡ y) (Lex y x) → Decides (Lex x y) (is_lt o)
+    go Less h = decides_yes h
+    go Equal h = decides_no (λ l. lex_irrefl y (subst (λ (z : List ℕ). Lex z y) h l))
+    go Greater h = decides_no (λ l. lex_irrefl x (lex_trans x y x l h))
+
 pub lex_shift : (u x y : List ℕ) → length x ≡ length u → length y ≡ length u → Lex x y → Lex (plus u x) (plus u y)
 lex_shift [] [] y e f h = h
 lex_shift [] (x ∷ xs) y e f h = absurd (omega arith)
@@ -120,6 +167,13 @@ cost_reads [] x = refl
 cost_reads (c ∷ cs) [] = refl
 cost_reads (c ∷ cs) (x ∷ xs) =
     omega (arith, plus_reads (pos x *ℤ c) (cost cs xs), times_up x c, times_down x c, cost_reads cs xs)
+
+-- of measures that are no numbers below 0 it is the grade
+pub cost_grade : (ws x : List ℕ) → cost (map pos ws) x ≡ pos (grade ws x)
+cost_grade [] x = refl
+cost_grade (w ∷ ws) [] = refl
+cost_grade (w ∷ ws) (x ∷ xs) =
+    ap (λ (z : ℤ). pos (x * w) +ℤ z) (cost_grade ws xs) ∙ ap (λ (k : ℕ). pos (k + grade ws xs)) (mul_comm x w)
 
 abbrev pub sum : List ℕ → ℕ
 sum [] = 0

@@ -1,9 +1,10 @@
 // Loads in lent slices, and the rows of flat tables: each function decides or computes one definition.
 #![tactic(auto)]
 
-ghost use Rattle.std.specs.Prelude.{◌≡◌, ◌+◌, ◌*◌, ◌≤◌, length};
+ghost use Rattle.std.specs.Prelude.{◌≡◌, ◌+◌, ◌*◌, ◌≤◌, ◌<◌, length, map, IfSome, unwrap_or, ◌^◌, ℤ, pos, nat_abs};
 ghost use Rattle.terms.specs.Decides.{Decides};
 ghost use Rattle.terms.specs.Load.{Fits, grade};
+ghost use Rattle.terms.specs.Order.{cost};
 ghost use Rattle.terms.specs.Swaps.{exchange};
 ghost use Rattle.terms.specs.Flat.{left_at, right_at};
 ghost use Rattle.terms.specs.Limits.{All, KindsFine, SizeFine, most_kinds};
@@ -21,15 +22,52 @@ pub fn fits_in(h: &[u16], x: &[u16]) -> bool
     requires { length h.now ≡ length x.now }
     ensures { Decides (Fits h.now x.now) result }
 {
-    let mut ok = true;
-    let mut k = 0;
-    while k < h.len() {
-        if x[k] < h[k] {
-            ok = false;
-        }
-        k += 1;
+    h.iter().zip(x).fold(true, |fits, (a, b)| fits & (a <= b))
+}
+
+// What one part of a kind counts for: its size, its cost, its weight. It is a signed number within 32 bits.
+pub trait Measure: Copy {
+    ghost value: { Self → ℤ };
+
+    fn wide(self) -> i64
+        ensures exact { result ≡ value self }
+        ensures small { nat_abs (value self) < 2 ^ 32 };
+}
+
+impl Measure for u16 {
+    ghost value = { pos };
+
+    fn wide(self) -> i64 {
+        i64::from(self)
     }
-    ok
+}
+
+impl Measure for u32 {
+    ghost value = { pos };
+
+    fn wide(self) -> i64 {
+        i64::from(self)
+    }
+}
+
+impl Measure for i32 {
+    ghost value = { λ c. c };
+
+    fn wide(self) -> i64 {
+        i64::from(self)
+    }
+}
+
+// What x counts for: the sum of count times measure, exact.
+pub fn measure_of<M: Measure>(measures: &[M], x: &[u16]) -> i64
+    requires { (length measures.now ≡ length x.now) × (length x.now ≤ most_kinds) }
+    ensures { result ≡ cost (map M.value measures.now) x.now }
+{
+    let mut sum = 0;
+    for (measure, count) in measures.iter().zip(x) {
+        sum += i64::from(*count) * measure.wide();
+    }
+    sum
 }
 
 // The grade of x: the sum of size times count.
@@ -37,13 +75,7 @@ pub fn grade_of(sizes: &[u16], x: &[u16]) -> Grade
     requires { (length sizes.now ≡ length x.now) × (length x.now ≤ most_kinds) }
     ensures { result ≡ grade sizes.now x.now }
 {
-    let mut sum: Grade = 0;
-    let mut k = 0;
-    while k < x.len() {
-        sum += (sizes[k] as Grade) * (x[k] as Grade);
-        k += 1;
-    }
-    sum
+    measure_of(sizes, x) as Grade
 }
 
 // The left side of row r of a flat table, as a part from the middle of the table.
@@ -55,7 +87,7 @@ pub fn left_of(n: usize, flat: &[u16], r: usize) -> &[u16]
     &flat[at..at + n]
 }
 
-// The right side of row r.
+// The right side of row r. It stays beside left_of: one function for both would take which side, and a caller would say no less.
 pub fn right_of(n: usize, flat: &[u16], r: usize) -> &[u16]
     requires { r * (2 * n) + 2 * n ≤ length flat.now }
     ensures { (result.now ≡ right_at n flat.now r) × (length result.now ≡ n) }
@@ -64,56 +96,56 @@ pub fn right_of(n: usize, flat: &[u16], r: usize) -> &[u16]
     &flat[at..at + n]
 }
 
+// A row of a flat table: its two sides, as parts from the middle of the table.
+#[derive(Clone, Copy)]
+pub struct Row<'a> {
+    pub head: &'a [u16],
+    pub tail: &'a [u16],
+}
+
+// Both sides of row r.
+pub fn row_of(n: usize, flat: &[u16], r: usize) -> Row<'_>
+    requires { r * (2 * n) + 2 * n ≤ length flat.now }
+    ensures head { (result.head.now ≡ left_at n flat.now r) × (length result.head.now ≡ n) }
+    ensures tail { (result.tail.now ≡ right_at n flat.now r) × (length result.tail.now ≡ n) }
+{
+    Row {
+        head: left_of(n, flat, r),
+        tail: right_of(n, flat, r),
+    }
+}
+
 // h taken out of x and t put in, in place.
 pub fn exchange_in(h: &[u16], t: &[u16], x: &mut [u16])
     requires { Fits h.now x.old × (length t.now ≡ length x.old) × UpTo 65535 (exchange h.now t.now x.old) }
     ensures { x.new ≡ exchange h.now t.now x.old }
 {
-    let mut k = 0;
-    while k < x.len() {
-        let kept = x[k] - h[k];
-        x[k] = kept + t[k];
-        k += 1;
+    for (k, count) in x.iter_mut().enumerate() {
+        *count = *count - h[k] + t[k];
     }
 }
 
-// The first of the table's first `rows` rows whose left side fits in x, or `rows` where none does.
-pub fn first_fit(n: usize, flat: &[u16], rows: usize, x: &[u16]) -> usize
+// The first of the table's first `rows` rows whose left side fits in x.
+pub fn first_fit(n: usize, flat: &[u16], rows: usize, x: &[u16]) -> Option<usize>
     requires { (rows * (2 * n) ≤ length flat.now) × (length x.now ≡ n) }
-    ensures { FirstRow n flat.now rows x.now result }
+    ensures first { FirstRow n flat.now rows x.now (unwrap_or result rows) }
+    ensures in_table { IfSome result (λ r. r < rows) }
 {
-    let mut r = 0;
-    while r < rows {
-        if fits_in(left_of(n, flat, r), x) {
-            return r;
-        }
-        r += 1;
-    }
-    r
+    (0..rows).find(|&r| fits_in(left_of(n, flat, r), x))
 }
 
 // Whether a number is from 1 to `most`: of kinds, a bound, a size.
 pub fn in_range(number: usize, most: usize) -> bool
     ensures { Decides ((1 ≤ number) × (number ≤ most)) result }
 {
-    if number == 0 {
-        return false;
-    }
-    number <= most
+    (1..=most).contains(&number)
 }
 
 // Whether every size is in range.
 pub fn sizes_fine(sizes: &[u16]) -> bool
     ensures { Decides (All SizeFine sizes.now) result }
 {
-    let mut k = 0;
-    while k < sizes.len() {
-        if !in_range(sizes[k] as usize, Kit::SIZE as usize) {
-            return false;
-        }
-        k += 1;
-    }
-    true
+    sizes.iter().all(|size| in_range(usize::from(*size), usize::from(Kit::SIZE)))
 }
 
 // Whether a lent table has whole rows, and at most so many.
@@ -121,9 +153,5 @@ pub fn lent(n: usize, most: usize, flat: &[u16]) -> bool
     requires { KindsFine n }
     ensures { Decides (Lent n most flat.now) result }
 {
-    let rows = flat.len() / (2 * n);
-    if rows * (2 * n) != flat.len() {
-        return false;
-    }
-    rows <= most
+    flat.len() % (2 * n) == 0 && flat.len() / (2 * n) <= most
 }

@@ -2,14 +2,18 @@
 --     weight_whole       a weight is the cost and 1,000,000 for each of the size
 --     weight_room        a weight is at most 1,001,000,000
 --     before_weigh       the two orders agree
+--     weights_parts, weights_filled      the weights of n kinds, and then those of the further kinds
 -- Assumes nothing.
-use Rattle.std.specs.Prelude.{ℕ, suc, ◌+◌, ◌*◌, ◌≤◌, ◌≡◌, refl, List, [], ◌∷◌, map, length, ℤ, pos, negsuc, ◌+ℤ◌, ◌*ℤ◌}
-use Rattle.std.proofs.Common.{ap, arith, add-mul, mul_assoc}
+use Rattle.std.specs.Prelude.{ℕ, zero, suc, ◌+◌, ◌-◌, ◌*◌, ◌≤◌, ◌≡◌, refl, List, [], ◌∷◌, ◌++◌, map, length, take, drop, replicate, ℤ, pos, negsuc, ◌+ℤ◌, ◌*ℤ◌}
+use Rattle.std.proofs.Common.{sym, ap, ap₂, ◌∙◌, arith, add-mul, mul_assoc, take_at}
+use Rattle.std.proofs.lemmas.List.{drop-replicate}
 use Rattle.terms.specs.Load.{grade}
 use Rattle.terms.specs.Order.{cost}
 use Rattle.terms.specs.Limits.{All, SizeFine, CostFine}
 use Rattle.laws.specs.Signed.{up, down, same, plus_reads, times_up, times_down, nat_abs_reads}
-use Rattle.padding.specs.Widen.{weight, weigh}
+use Rattle.laws.specs.Fill.{half}
+use Rattle.padding.specs.Widen.{FineKit, weight, weigh, weights}
+use Rattle.padding.specs.Kinds.{weigh_long}
 use Rattle.padding.specs.Weigh.{cost_of_weights, Agree, before_same}
 
 -- ---- weights
@@ -60,3 +64,24 @@ module _ (n : ℕ) (ss : List ℕ) (cs : List ℤ) (even : length cs ≡ length 
 
   pub weigh_before : Agree n ss (map pos (weigh ss cs)) cs
   weigh_before x y p q d = before_same (map pos (weigh ss cs)) cs x y (omega (arith, gap x y d, reads x, reads y))
+
+-- ---- the weights of the kinds, and then of the further ones
+
+further_weights : (j : ℕ) → weigh (replicate j 1) (replicate j (pos 0)) ≡ replicate j (weight 1 (pos 0))
+further_weights zero = refl
+further_weights (suc j) = ap (λ (l : List ℕ). weight 1 (pos 0) ∷ l) (further_weights j)
+
+pub weights_parts : (j : ℕ) (ss : List ℕ) (cs : List ℤ) → length cs ≡ length ss → weigh (ss ++ replicate j 1) (cs ++ replicate j (pos 0)) ≡ weigh ss cs ++ replicate j (weight 1 (pos 0))
+weights_parts j [] [] e = further_weights j
+weights_parts j [] (c ∷ cs) e = absurd (omega arith)
+weights_parts j (s ∷ ss) [] e = absurd (omega arith)
+weights_parts j (s ∷ ss) (c ∷ cs) e = ap (λ (l : List ℕ). weight s c ∷ l) (weights_parts j ss cs (suc_inj e))
+
+-- of 12 weights as of further kinds the first n are written over
+pub weights_filled : (n : ℕ) (ss : List ℕ) (cs : List ℤ) (fine : FineKit n ss cs) (w k : ℕ) → w ≡ weight 1 (pos 0) → k ≡ n → half (weights n ss cs) (replicate 12 w) k ≡ weights n ss cs
+weights_filled n ss cs fine w k e d =
+    let parts : weights n ss cs ≡ weigh ss cs ++ replicate (12 - n) (weight 1 (pos 0)) = weights_parts (12 - n) ss cs (fine.costed ∙ sym fine.sized) in
+    let long : length (weigh ss cs) ≡ k = weigh_long ss cs (fine.costed ∙ sym fine.sized) ∙ fine.sized ∙ sym d in
+    let first : take k (weights n ss cs) ≡ weigh ss cs = ap (take k) parts ∙ take_at (weigh ss cs) (replicate (12 - n) (weight 1 (pos 0))) k long in
+    let rest : drop k (replicate 12 w) ≡ replicate (12 - n) (weight 1 (pos 0)) = drop-replicate k 12 w ∙ ap₂ (λ (i j : ℕ). replicate (12 - i) j) d e in
+    ap₂ (λ (x y : List ℕ). x ++ y) first rest ∙ sym parts

@@ -34,12 +34,12 @@ module _ (n : ℕ) (sizes : List ℕ) (e : length sizes ≡ n) where
 
 -- ---- weights
 
-weigh_long : (ss : List ℕ) (cs : List ℤ) → length cs ≡ length ss → length (weigh ss cs) ≡ length ss
+pub weigh_long : (ss : List ℕ) (cs : List ℤ) → length cs ≡ length ss → length (weigh ss cs) ≡ length ss
 weigh_long [] cs e = refl
 weigh_long (s ∷ ss) [] e = e
 weigh_long (s ∷ ss) (c ∷ cs) e = let d : length cs ≡ length ss = omega arith in ap suc (weigh_long ss cs d)
 
-weigh_at : (ss : List ℕ) (cs : List ℤ) (k : ℕ) → k < length ss → k < length cs → get_or (weigh ss cs) k 0 ≡ weight (get_or ss k 0) (get_or cs k (pos 0))
+pub weigh_at : (ss : List ℕ) (cs : List ℤ) (k : ℕ) → k < length ss → k < length cs → get_or (weigh ss cs) k 0 ≡ weight (get_or ss k 0) (get_or cs k (pos 0))
 weigh_at [] cs k p q = absurd (omega arith)
 weigh_at (s ∷ ss) [] k p q = absurd (omega arith)
 weigh_at (s ∷ ss) (c ∷ cs) zero p q = refl

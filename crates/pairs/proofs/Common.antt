@@ -1,35 +1,32 @@
--- The least load that holds a and b, as the loops over twelve counts meet it: `most` is the larger count of kind i.
+-- What the loops over twelve counts keep, and the head of a row that the program holds.
 -- Assumes nothing.
-use Prim.Native.Nat.{ℕ, ◌+◌, ◌*◌, ◌<◌, ◌≤◌, max}
-use mathlib.Core.Path.{◌≡◌, sym, ◌∙◌}
-use mathlib.Core.List.{List}
-use native.Mathlib.Nat.{mul-le-mul, max-le}
-use native.Mathlib.Omega.{arith}
-use lib.ListN.{length, get_or, drop}
+use Rattle.std.specs.Prelude.{ℕ, ◌+◌, ◌*◌, ◌≤◌, ◌<◌, ◌≡◌, Bool, true, List, length, get_or}
+use Rattle.std.proofs.Common.{subst}
 use Rattle.terms.specs.Load.{Fits, grade}
-use Rattle.terms.specs.Flat.{left_at}
-use Rattle.laws.specs.Load.{join, length_both, both_at, join_left, up_to_at}
-use Rattle.laws.specs.Walk.{grade_next}
-use Rattle.laws.specs.Flat.{left_long}
-use Rattle.pairs.specs.Pairs.{common, Small}
+use Rattle.laws.specs.Load.{UpTo, join}
+use Rattle.rack.specs.Rows.{as_rows, head_at}
+use Rattle.rack.specs.declared.Row.{Row as Held}
+use Rattle.rack.proofs.Held.{held_at}
+use Rattle.terms.specs.Table.{Row}
 
-module _ (a b : List ℕ) (long-a : length a ≡ 12) (long-b : length b ≡ 12) where
-  pub long_join : length (join a b) ≡ 12
-  long_join = length_both max a b (long-a ∙ sym long-b) ∙ long-a
+-- ---- the loop that sums the grade: what is left of the three lists
 
-  pub join_at : (i most : ℕ) → i < 12 → most ≡ max (get_or a i 0) (get_or b i 0) → get_or (join a b) i 0 ≡ most
-  join_at i most l e = both_at max a b i (omega arith) (omega arith) ∙ sym e
+pub record Summing (ss xs ys : List ℕ) (whole sum : ℕ) : Type 0 where
+  pub left : length xs ≡ length ss
+  pub right : length ys ≡ length ss
+  pub small : UpTo 1000 ss × UpTo 1000 xs × UpTo 1000 ys
+  pub rest : sum + grade ss (join xs ys) ≡ whole
+  pub room : sum + length ss * 1000000 ≤ 12000000
 
-product : (a b : ℕ) → a ≤ 1000 → b ≤ 1000 → a * b ≤ 1000000
-product a b p q = mul-le-mul p q
+-- ---- the loop that tests each count
 
--- a turn of the sum: what it adds is what the grade has there, and no sum of twelve wraps
-pub sum_turn :
-    (sizes a b : List ℕ) (i most : ℕ) → Small sizes → Small a → Small b → i < 12 → most ≡ max (get_or a i 0) (get_or b i 0)
-    → (get_or sizes i 0 * most ≤ 1000000) × (grade (drop i sizes) (drop i (join a b)) ≡ get_or sizes i 0 * most + grade (drop (i + 1) sizes) (drop (i + 1) (join a b)))
-sum_turn sizes a b i most s x y l e =
-    (product (get_or sizes i 0) most (up_to_at 1000 sizes i s.up_to) (rw e (max-le (up_to_at 1000 a i x.up_to) (up_to_at 1000 b i y.up_to))), rw (join_at a b x.long y.long i most l e) at (grade_next sizes (join a b) i (omega (arith, s.long)) (omega (arith, long_join a b x.long y.long))))
+pub record Covering (ps xs ys p j : List ℕ) (ok : Bool) : Type 0 where
+  pub left : length xs ≡ length ps
+  pub right : length ys ≡ length ps
+  pub onward : ok ≡ true → Fits ps (join xs ys) → Fits p j
+  pub back : Fits p j → (ok ≡ true) × Fits ps (join xs ys)
 
--- the head of row p fits in the least load that it has with another row
-pub own_cover : (table : List ℕ) (p j : ℕ) → (p + 1) * 24 ≤ length table → (j + 1) * 24 ≤ length table → Fits (left_at 12 table p) (common table p j)
-own_cover table p j h k = join_left (left_at 12 table p) (left_at 12 table j) (left_long 12 table p (omega arith) ∙ sym (left_long 12 table j (omega arith)))
+-- ---- a row that the program holds
+
+pub held_small : (T : List Held) (r : ℕ) (d : Held) → r < length T → UpTo 1000 (head_at (as_rows T) r) → UpTo 1000 (get_or T r d).head
+held_small T r d l u = subst (λ (a : Row). UpTo 1000 a.head) (held_at T r d l) u

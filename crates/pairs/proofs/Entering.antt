@@ -1,197 +1,154 @@
 -- What the loops hold while a row is entered, turn by turn.
 -- Assumes nothing.
-use Prim.Native.Nat.{ℕ, ◌+◌, ◌*◌, ◌≤◌, ◌<◌}
-use mathlib.Core.Path.{◌≡◌, refl, sym, ap, subst, ◌∙◌}
-use mathlib.Core.Logic.{◌⊎◌, inl, inr, ⊎_elim}
-use mathlib.Core.List.{List}
-use native.Mathlib.Nat.{eq-or-lt_of_le, le_of_suc-le-suc}
-use native.Mathlib.Numerals.{add-one}
-use native.Mathlib.Omega.{arith}
-use borrow.Author.Count.{below_more}
-use lib.ListN.{length, get_or, set}
-use lib.Seq.{get_or-set_same, get_or-set_other}
+use Rattle.std.proofs.Common.{ℕ, zero, suc, get_or, Contains, ◌+◌, ◌≤◌, ◌<◌, ◌≡◌, refl, sym, ap, subst, ◌∙◌, ◌⊎◌, inl, inr, ⊎_elim, List, [], ◌∷◌, ◌++◌, length, length-append, eq-or-lt_of_le, le_of_suc-le-suc, add-one, below_more, arith, Bool, true, false, not, cond}
+use Rattle.std.specs.List.Retain.{RetainsInTurn}
+use Rattle.terms.specs.Decides.{Decides}
+use mathlib.Core.List.Memᴰ
 use Rattle.terms.specs.Load.{Fits, grade}
-use Rattle.terms.specs.Flat.{left_at}
+use Rattle.terms.specs.Swaps.{◌∈◌}
+use Rattle.terms.specs.Table.{Row}
+use Rattle.rack.specs.Rows.{head_at}
+use Rattle.pairs.specs.declared.Pair.{Pair}
+use Rattle.pairs.specs.declared.Candidate.{Candidate}
 use Rattle.pairs.specs.Pairs.{common, triangle, Pivot, Entry, PairList}
 use Rattle.pairs.specs.Candidates.{Among, Graded, Picked, Sifted}
 
--- ---- one number more behind the first n of a list
+-- one more behind a list
+long_more : {A : Type 0} (l : List A) (a : A) → length (l ++ a ∷ []) ≡ length l + 1
+long_more l a = length-append l (a ∷ [])
 
-put_here : (l : List ℕ) (n v : ℕ) → n < length l → get_or (set l n v) n 0 ≡ v
-put_here l n v h = get_or-set_same l n v 0 h
+each_more : {A : Type 0} (P : A → Type 0) (l : List A) (a : A) → ((b : A) → b ∈ l → P b) → P a → (b : A) → b ∈ l ++ a ∷ [] → P b
+each_more P l a old new b m = ⊎_elim (old b) (λ (n : b ∈ a ∷ []). subst P (sym (Memᴰ.eq_of_singleton n)) new) (Memᴰ.append_cases l m)
 
-put_below : (l : List ℕ) (n v k : ℕ) → k < n → get_or (set l n v) k 0 ≡ get_or l k 0
-put_below l n v k h = get_or-set_other l n k v 0 (λ e. omega arith)
+here : {A : Type 0} (l : List A) (a : A) → a ∈ l ++ a ∷ []
+here l a = Memᴰ.append_right l (Memᴰ.head refl)
 
-put_after : (l : List ℕ) (n v k : ℕ) → n < k → get_or (set l n v) k 0 ≡ get_or l k 0
-put_after l n v k h = get_or-set_other l n k v 0 (λ e. omega arith)
+at_in : {A : Type 0} (l : List A) (k : ℕ) (d : A) → k < length l → get_or l k d ∈ l
+at_in [] k d h = absurd (omega arith)
+at_in (x ∷ l) zero d h = Memᴰ.head refl
+at_in (x ∷ l) (suc k) d h = Memᴰ.tail (at_in l k d (omega arith))
 
-among_put : (l : List ℕ) (n v i : ℕ) → Among l n i → Among (set l n v) (n + 1) i
-among_put l n v i (s, h, e) = (s, omega arith, put_below l n v s h ∙ e)
-
-among_here : (l : List ℕ) (n v : ℕ) → n < length l → Among (set l n v) (n + 1) v
-among_here l n v h = (n, omega arith, put_here l n v h)
+pub contained : {A : Type 0} {l k : List A} {a : A} → l ≡ k → Contains l a → a ∈ k
+contained {A = A} {l} {k} {a} e w = subst (λ (m : List A). a ∈ m) e (Memᴰ.cast (sym w.2) (at_in l w.0 a w.1))
 
 -- ---- the candidates are picked
 
-module _ (bound : ℕ) (sizes table : List ℕ) (j : ℕ) where
-  pub picked_start : (cand grades : List ℕ) → Picked bound sizes table j 0 cand grades 0
-  picked_start cand grades = record {
-    right = record { below = λ s h. absurd (omega arith); graded = λ s h. absurd (omega arith) };
+module _ (bound : ℕ) (sizes : List ℕ) (T : List Row) (j : ℕ) where
+  pub picked_start : Picked bound sizes T j 0 []
+  picked_start = record {
+    right = record { below = λ a m. absurd (Memᴰ.not-nil m); graded = λ a m. absurd (Memᴰ.not-nil m) };
     all = λ i h q. absurd (omega arith);
     few = omega arith;
   }
 
-  module _ (i : ℕ) (cand grades : List ℕ) (m : ℕ) (so : Picked bound sizes table j i cand grades m) where
+  module _ (i : ℕ) (picked : List Candidate) (so : Picked bound sizes T j i picked) where
     -- row i is over the bound
-    pub picked_past : bound < grade sizes (common table i j) → Picked bound sizes table j (i + 1) cand grades m
+    pub picked_past : bound < grade sizes (common T i j) → Picked bound sizes T j (i + 1) picked
     picked_past over = record {
-      right = record { below = λ s h. omega (arith, so.right.below s h); graded = so.right.graded };
-      all = below_more (λ k. grade sizes (common table k j) ≤ bound → Among cand m k) i so.all (λ q. absurd (omega arith));
+      right = record { below = λ a m. omega (arith, so.right.below a m); graded = so.right.graded };
+      all = below_more (λ k. grade sizes (common T k j) ≤ bound → Among picked k) i so.all (λ q. absurd (omega arith));
       few = omega (arith, so.few);
     }
 
     -- row i becomes a candidate
-    pub picked_more : (g : ℕ) → m < length cand → m < length grades → g ≡ grade sizes (common table i j) → Picked bound sizes table j (i + 1) (set cand m i) (set grades m g) (m + 1)
-    picked_more g p q e = record {
+    pub picked_more : (g : ℕ) → g ≡ grade sizes (common T i j) → Picked bound sizes T j (i + 1) (picked ++ record { row = i; grade = g } ∷ [])
+    picked_more g e = record {
       right = record {
-        below = below_more (λ s. get_or (set cand m i) s 0 < i + 1) m (λ s h. omega (arith, put_below cand m i s h, so.right.below s h)) (omega (arith, put_here cand m i p));
-        graded = below_more (λ s. get_or (set grades m g) s 0 ≡ grade sizes (common table (get_or (set cand m i) s 0) j)) m (λ s h. rw (put_below cand m i s h, put_below grades m g s h) (so.right.graded s h)) (rw (put_here cand m i p, put_here grades m g q) e);
+        below = each_more (λ a. a.row < i + 1) picked new (λ a m. omega (arith, so.right.below a m)) (omega arith);
+        graded = each_more (λ a. a.grade ≡ grade sizes (common T a.row j)) picked new so.right.graded e;
       };
-      all = below_more (λ k. grade sizes (common table k j) ≤ bound → Among (set cand m i) (m + 1) k) i (λ k h w. among_put cand m i k (so.all k h w)) (λ w. among_here cand m i p);
-      few = omega (arith, so.few);
+      all = below_more (λ k. grade sizes (common T k j) ≤ bound → Among (picked ++ new ∷ []) k) i (λ k h w. more k (so.all k h w)) (λ w. (new, here picked new, refl));
+      few = omega (arith, so.few, long_more picked new);
     }
+      where
+        new : Candidate
+        new = record { row = i; grade = g }
+
+        more : (k : ℕ) → Among picked k → Among (picked ++ new ∷ []) k
+        more k (a, m, e) = (a, Memᴰ.append_left (new ∷ []) m, e)
 
 -- ---- the candidates are sifted
 
--- from place s on nothing has been written
-abbrev pub Unread : List ℕ → List ℕ → ℕ → Type 0
-Unread l l' s = (t : ℕ) → s ≤ t → get_or l' t 0 ≡ get_or l t 0
+-- what `retain` leaves, where its closure keeps each candidate for which row p is no pivot
+module _ (T : List Row) (p j : ℕ) (low : p < j) where
+  abbrev Held : Candidate → Type 0
+  Held a = (a.row < j) × Fits (head_at T p) (common T a.row j)
 
-pub unread_put : (l l' : List ℕ) (s n v : ℕ) → n ≤ s → Unread l l' s → Unread l (set l' n v) (s + 1)
-unread_put l l' s n v h so t k = put_after l' n v t (omega arith) ∙ so t (omega arith)
-
-pub unread_past : (l l' : List ℕ) (s : ℕ) → Unread l l' s → Unread l l' (s + 1)
-unread_past l l' s so t k = so t (omega arith)
-
-module _ (table : List ℕ) (p j : ℕ) (cand grades : List ℕ) where
-  pub sifted_start : Sifted table p j cand grades cand grades 0 0
-  sifted_start = record {
-    from = λ k h. absurd (omega arith);
-    kept = λ t h. absurd (omega arith);
-    fewer = λ w. absurd (omega (arith, w.1));
-    few = omega arith;
+  sifted_turn : (x : Candidate) (xs zs ys : List Candidate) (b : Bool) → Decides (Held x) (not b) × (x.row < j → Fits (head_at T p) (common T p j)) → ys ≡ cond b (x ∷ zs) zs → Sifted T p j xs zs → Sifted T p j (x ∷ xs) ys
+  sifted_turn x xs zs ys true d e so = rw e record {
+    from = λ a m. ⊎_elim (λ (q : a ≡ x). Memᴰ.head q) (λ (n : a ∈ zs). Memᴰ.tail (so.from a n)) (Memᴰ.cases_cons m);
+    kept = λ a m. ⊎_elim (λ (q : a ≡ x). inl (Memᴰ.head q)) (λ (n : a ∈ xs). ⊎_elim (λ (w : a ∈ zs). inl (Memᴰ.tail w)) (λ (f : Fits (head_at T p) (common T a.row j)). inr f) (so.kept a n)) (Memᴰ.cases_cons m);
+    fewer = λ w. ⊎_elim (λ (q : w.0 ≡ x). let e : p ≡ x.row = sym w.2 ∙ ap (λ (a : Candidate). a.row) q in absurd (d.0.fails refl (subst (λ (i : ℕ). (i < j) × Fits (head_at T p) (common T i j)) e (low, d.1 (subst (λ (i : ℕ). i < j) e low))))) (λ (n : w.0 ∈ xs). omega (arith, so.fewer (w.0, n, w.2))) (Memᴰ.cases_cons w.1);
+    few = omega (arith, so.few);
+  }
+  sifted_turn x xs zs ys false d e so = rw e record {
+    from = λ a m. Memᴰ.tail (so.from a m);
+    kept = λ a m. ⊎_elim (λ (q : a ≡ x). inr (subst (λ (c : Candidate). Fits (head_at T p) (common T c.row j)) (sym q) (d.0.holds refl).1)) (λ (n : a ∈ xs). so.kept a n) (Memᴰ.cases_cons m);
+    fewer = λ w. omega (arith, so.few);
+    few = omega (arith, so.few);
   }
 
-  module _ (cand' grades' : List ℕ) (s r : ℕ) (so : Sifted table p j cand grades cand' grades' s r) where
-    -- the candidate at s is dropped
-    pub sifted_drop : Fits (left_at 12 table p) (common table (get_or cand s 0) j) → Sifted table p j cand grades cand' grades' (s + 1) r
-    sifted_drop f = record {
-      from = λ k h. ((so.from k h).0, omega (arith, (so.from k h).1), (so.from k h).2, (so.from k h).3);
-      kept = below_more (λ t. Among cand' r (get_or cand t 0) ⊎ Fits (left_at 12 table p) (common table (get_or cand t 0) j)) s so.kept (inr f);
-      fewer = λ w. omega (arith, so.few);
-      few = omega (arith, so.few);
-    }
-
-    -- the candidate at s is kept, so it is not row p
-    module _ (v g : ℕ) (read-v : v ≡ get_or cand s 0) (read-g : g ≡ get_or grades s 0) (h : r < length cand') (k : r < length grades') (other : v ≡ p → ⊥) where
-      abbrev From : ℕ → Type 0
-      From i = (t : ℕ) × (t < s + 1) × (get_or (set cand' r v) i 0 ≡ get_or cand t 0) × (get_or (set grades' r g) i 0 ≡ get_or grades t 0)
-
-      from_old : (i : ℕ) → i < r → From i
-      from_old i l = ((so.from i l).0, omega (arith, (so.from i l).1), put_below cand' r v i l ∙ (so.from i l).2, put_below grades' r g i l ∙ (so.from i l).3)
-
-      abbrev Kept : ℕ → Type 0
-      Kept t = Among (set cand' r v) (r + 1) (get_or cand t 0) ⊎ Fits (left_at 12 table p) (common table (get_or cand t 0) j)
-
-      kept_old : (t : ℕ) → t < s → Kept t
-      kept_old t l = ⊎_elim (λ w. inl (among_put cand' r v (get_or cand t 0) w)) (λ f. inr f) (so.kept t l)
-
-      fewer_still : Among cand (s + 1) p → r + 1 < s + 1
-      fewer_still (t, l, e) =
-          ⊎_elim (λ (q : t ≡ s). absurd (other (read-v ∙ ap (λ (i : ℕ). get_or cand i 0) (sym q) ∙ e))) (λ (q : t < s). omega (arith, so.fewer (t, q, e))) (eq-or-lt_of_le (le_of_suc-le-suc (rw add-one at l)))
-
-      pub sifted_keep : Sifted table p j cand grades (set cand' r v) (set grades' r g) (s + 1) (r + 1)
-      sifted_keep = record {
-        from = below_more From r from_old (s, omega arith, put_here cand' r v h ∙ read-v, put_here grades' r g k ∙ read-g);
-        kept = below_more Kept s kept_old (inl (r, omega arith, put_here cand' r v h ∙ read-v));
-        fewer = fewer_still;
-        few = omega (arith, so.few);
-      }
+  pub sifted_by :
+      {F : Type 0} (R : F → Candidate → Bool → F → Candidate → Type 0) (f : F)
+      → ((x : Candidate) (b : Bool) (f' : F) (y : Candidate) → R f x b f' y → (Decides (Held x) (not b) × (x.row < j → Fits (head_at T p) (common T p j))) × (f' ≡ f) × (y ≡ x))
+      → (xs ys : List Candidate) → RetainsInTurn R f xs ys → Sifted T p j xs ys
+  sifted_by R f says [] ys h = rw h record { from = λ a m. m; kept = λ a m. inl m; fewer = λ w. absurd (Memᴰ.not-nil w.1); few = omega arith }
+  sifted_by R f says (x ∷ xs) ys h =
+      let said = says x h.0 h.1 h.2 h.3 in
+      let later = subst (λ g. RetainsInTurn R g xs h.4) said.1 h.5 in
+      sifted_turn x xs h.4 ys h.0 said.0 (h.6 ∙ ap (λ (y : Candidate). cond h.0 (y ∷ h.4) h.4) said.2) (sifted_by R f says xs h.4 later)
 
 -- ---- the row is entered
 
 -- each lower row within the bound is still a candidate, or has its pivot
-pub record Entering (bound : ℕ) (sizes table : List ℕ) (j : ℕ) (cand grades : List ℕ) (m : ℕ) (due mates : List ℕ) (pairs : ℕ) : Type 0 where
-  pub right : Graded sizes table j j cand grades m
-  pub entries : (k : ℕ) → k < pairs → Entry sizes table (j + 1) due mates k
-  pub lower : (i k : ℕ) → i < k → k < j → grade sizes (common table i k) ≤ bound → Pivot table mates pairs i k
-  pub here : (i : ℕ) → i < j → grade sizes (common table i j) ≤ bound → Among cand m i ⊎ Pivot table mates pairs i j
-  pub few : pairs + m ≤ j + triangle j
+pub record Entering (bound : ℕ) (sizes : List ℕ) (T : List Row) (j : ℕ) (candidates : List Candidate) (list : List Pair) : Type 0 where
+  pub right : Graded sizes T j j candidates
+  pub entries : (a : Pair) → a ∈ list → Entry sizes T (j + 1) a
+  pub lower : (i k : ℕ) → i < k → k < j → grade sizes (common T i k) ≤ bound → Pivot T list i k
+  pub here : (i : ℕ) → i < j → grade sizes (common T i j) ≤ bound → Among candidates i ⊎ Pivot T list i j
+  pub few : length list + length candidates ≤ j + triangle j
 
-module _ (bound : ℕ) (sizes table : List ℕ) (j : ℕ) where
-  pub entering_start :
-      (cand grades : List ℕ) (m : ℕ) (due mates : List ℕ) (pairs : ℕ) → PairList bound sizes table j due mates pairs
-      → Picked bound sizes table j j cand grades m → Entering bound sizes table j cand grades m due mates pairs
-  entering_start cand grades m due mates pairs list picked = record {
+module _ (bound : ℕ) (sizes : List ℕ) (T : List Row) (j : ℕ) where
+  pub entering_start : (candidates : List Candidate) (list : List Pair) → PairList bound sizes T j list → Picked bound sizes T j j candidates → Entering bound sizes T j candidates list
+  entering_start candidates list so picked = record {
     right = picked.right;
-    entries = λ k h. more k (list.entries k h);
-    lower = list.cover;
+    entries = λ a m. record { apart = (so.entries a m).apart; below = omega (arith, (so.entries a m).below); graded = (so.entries a m).graded };
+    lower = so.cover;
     here = λ i h q. inl (picked.all i h q);
-    few = omega (arith, picked.few, list.few);
+    few = omega (arith, picked.few, so.few);
   }
-    where
-      more : (k : ℕ) → Entry sizes table j due mates k → Entry sizes table (j + 1) due mates k
-      more k (p, i, l, h, e, d) = (p, i, l, omega arith, e, d)
 
   -- no candidate is left
-  pub entering_end : (cand grades : List ℕ) (due mates : List ℕ) (pairs : ℕ) → Entering bound sizes table j cand grades 0 due mates pairs → PairList bound sizes table (j + 1) due mates pairs
-  entering_end cand grades due mates pairs so = record {
+  pub entering_end : (candidates : List Candidate) (list : List Pair) → length candidates ≡ 0 → Entering bound sizes T j candidates list → PairList bound sizes T (j + 1) list
+  entering_end [] list none so = record {
     entries = so.entries;
     cover = λ i k l h q. ⊎_elim (λ (e : k ≡ j). rw e (own i (omega arith) (rw e at q))) (λ (w : k < j). so.lower i k l w q) (eq-or-lt_of_le (le_of_suc-le-suc (rw add-one at h)));
     few = omega (arith, so.few, ap triangle (add-one j));
   }
     where
-      own : (i : ℕ) → i < j → grade sizes (common table i j) ≤ bound → Pivot table mates pairs i j
-      own i l q = ⊎_elim (λ (w : Among cand 0 i). absurd (omega (arith, w.1))) (λ (w : Pivot table mates pairs i j). w) (so.here i l q)
+      own : (i : ℕ) → i < j → grade sizes (common T i j) ≤ bound → Pivot T list i j
+      own i l q = ⊎_elim (λ (w : Among [] i). absurd (Memᴰ.not-nil w.1)) (λ (w : Pivot T list i j). w) (so.here i l q)
+  entering_end (a ∷ candidates) list none so = absurd (omega arith)
 
-  -- the candidate at place `at` is listed with row j, and the candidates are sifted by it
-  module _
-      (cand grades : List ℕ) (m : ℕ) (due mates : List ℕ) (pairs : ℕ) (so : Entering bound sizes table j cand grades m due mates pairs)
-      (at : ℕ) (in-m : at < m) (in-due : pairs < length due) (in-mates : pairs < length mates)
-    where
-      pub entering_next :
-          (cand' grades' : List ℕ) (r : ℕ) → Sifted table (get_or cand at 0) j cand grades cand' grades' m r
-          → Entering bound sizes table j cand' grades' r (set due pairs (get_or grades at 0)) (set mates pairs (get_or cand at 0 * 256 + j)) (pairs + 1)
-      entering_next cand' grades' r sifted = record {
-        right = record {
-          below = λ s h. omega (arith, (sifted.from s h).2, so.right.below (sifted.from s h).0 (sifted.from s h).1);
-          graded = λ s h. (sifted.from s h).3 ∙ so.right.graded (sifted.from s h).0 (sifted.from s h).1 ∙ ap (λ (i : ℕ). grade sizes (common table i j)) (sym (sifted.from s h).2);
-        };
-        entries = below_more (λ k. Entry sizes table (j + 1) due' mates' k) pairs old_entry (p, j, so.right.below at in-m, omega arith, put_here mates pairs (p * 256 + j) in-mates, put_here due pairs (get_or grades at 0) in-due ∙ so.right.graded at in-m);
-        lower = λ i k l h q. pivot_more i k (so.lower i k l h q);
-        here = λ i l q. ⊎_elim (λ w. candidate i w) (λ w. inr (pivot_more i j w)) (so.here i l q);
-        few = omega (arith, so.few, sifted.fewer (at, in-m, refl));
-      }
-        where
-          p : ℕ
-          p = get_or cand at 0
+  -- a candidate is listed with row j, and the candidates are sifted by it
+  module _ (candidates : List Candidate) (list : List Pair) (so : Entering bound sizes T j candidates list) (pivot : Candidate) (in-candidates : pivot ∈ candidates) where
+    pub entering_next :
+        (left : List Candidate) → Sifted T pivot.row j candidates left
+        → Entering bound sizes T j left (list ++ record { due = pivot.grade; first = pivot.row; second = j } ∷ [])
+    entering_next left sifted = record {
+      right = record { below = λ a m. so.right.below a (sifted.from a m); graded = λ a m. so.right.graded a (sifted.from a m) };
+      entries = each_more (Entry sizes T (j + 1)) list new so.entries (record { apart = so.right.below pivot in-candidates; below = omega arith; graded = so.right.graded pivot in-candidates });
+      lower = λ i k l h q. pivot_more i k (so.lower i k l h q);
+      here = λ i l q. ⊎_elim (candidate i) (λ w. inr (pivot_more i j w)) (so.here i l q);
+      few = omega (arith, so.few, sifted.fewer (pivot, in-candidates, refl), long_more list new);
+    }
+      where
+        new : Pair
+        new = record { due = pivot.grade; first = pivot.row; second = j }
 
-          due' : List ℕ
-          due' = set due pairs (get_or grades at 0)
+        pivot_more : (i k : ℕ) → Pivot T list i k → Pivot T (list ++ new ∷ []) i k
+        pivot_more i k (q, l, f, w) = (q, l, f, (w.0, Memᴰ.append_left (new ∷ []) w.1, w.2, w.3))
 
-          mates' : List ℕ
-          mates' = set mates pairs (p * 256 + j)
-
-          old_entry : (k : ℕ) → k < pairs → Entry sizes table (j + 1) due' mates' k
-          old_entry k h = go (so.entries k h)
-            where
-              go : Entry sizes table (j + 1) due mates k → Entry sizes table (j + 1) due' mates' k
-              go (q, i, l, n, e, d) = (q, i, l, n, put_below mates pairs (p * 256 + j) k h ∙ e, put_below due pairs (get_or grades at 0) k h ∙ d)
-
-          pivot_more : (i k : ℕ) → Pivot table mates pairs i k → Pivot table mates' (pairs + 1) i k
-          pivot_more i k (q, l, f, w) = (q, l, f, (w.0, omega (arith, w.1), put_below mates pairs (p * 256 + j) w.0 w.1 ∙ w.2))
-
-          candidate : (i : ℕ) → Among cand m i → Among cand' r i ⊎ Pivot table mates' (pairs + 1) i j
-          candidate i (s, l, e) =
-              ⊎_elim (λ (w : Among cand' r (get_or cand s 0)). inl (w.0, w.1, w.2 ∙ e)) (λ (f : Fits (left_at 12 table p) (common table (get_or cand s 0) j)). inr (p, so.right.below at in-m, subst (λ (k : ℕ). Fits (left_at 12 table p) (common table k j)) e f, (pairs, omega arith, put_here mates pairs (p * 256 + j) in-mates))) (sifted.kept s l)
+        candidate : (i : ℕ) → Among candidates i → Among left i ⊎ Pivot T (list ++ new ∷ []) i j
+        candidate i (a, m, e) =
+            ⊎_elim (λ (w : a ∈ left). inl (a, w, e)) (λ (f : Fits (head_at T pivot.row) (common T a.row j)). inr (pivot.row, so.right.below pivot in-candidates, subst (λ (k : ℕ). Fits (head_at T pivot.row) (common T k j)) e f, (new, here list new, refl, refl))) (sifted.kept a m)

@@ -1,27 +1,30 @@
--- The candidates while row j is entered: `cand` has their row numbers, `grades` the grades of their least loads with row j, the first m of each.
-use Rattle.std.specs.Prelude.{ℕ, ◌≤◌, ◌<◌, ◌≡◌, ◌⊎◌, List, get_or}
+-- The candidates while row j is entered: rows, each with the grade of its least load with row j.
+use Rattle.std.specs.Prelude.{ℕ, ◌≤◌, ◌<◌, ◌≡◌, ◌⊎◌, List, length}
 use Rattle.terms.specs.Load.{Fits, grade}
-use Rattle.terms.specs.Flat.{left_at}
+use Rattle.terms.specs.Swaps.{◌∈◌}
+use Rattle.terms.specs.Table.{Row}
+use Rattle.rack.specs.Rows.{head_at}
+use Rattle.pairs.specs.declared.Candidate.{Candidate}
 use Rattle.pairs.specs.Pairs.{common}
 
--- i is among the first m
-abbrev pub Among : List ℕ → ℕ → ℕ → Type 0
-Among cand m i = (s : ℕ) × (s < m) × (get_or cand s 0 ≡ i)
+-- row i is a candidate
+abbrev pub Among : List Candidate → ℕ → Type 0
+Among candidates i = (a : Candidate) × (a ∈ candidates) × (a.row ≡ i)
 
 -- each candidate is a row below `rows`, with its grade
-pub record Graded (sizes table : List ℕ) (j rows : ℕ) (cand grades : List ℕ) (m : ℕ) : Type 0 where
-  pub below : (s : ℕ) → s < m → get_or cand s 0 < rows
-  pub graded : (s : ℕ) → s < m → get_or grades s 0 ≡ grade sizes (common table (get_or cand s 0) j)
+pub record Graded (sizes : List ℕ) (T : List Row) (j rows : ℕ) (candidates : List Candidate) : Type 0 where
+  pub below : (a : Candidate) → a ∈ candidates → a.row < rows
+  pub graded : (a : Candidate) → a ∈ candidates → a.grade ≡ grade sizes (common T a.row j)
 
 -- the candidates are the rows below `rows` whose least load with row j is within the bound
-pub record Picked (bound : ℕ) (sizes table : List ℕ) (j rows : ℕ) (cand grades : List ℕ) (m : ℕ) : Type 0 where
-  pub right : Graded sizes table j rows cand grades m
-  pub all : (i : ℕ) → i < rows → grade sizes (common table i j) ≤ bound → Among cand m i
-  pub few : m ≤ rows
+pub record Picked (bound : ℕ) (sizes : List ℕ) (T : List Row) (j rows : ℕ) (candidates : List Candidate) : Type 0 where
+  pub right : Graded sizes T j rows candidates
+  pub all : (i : ℕ) → i < rows → grade sizes (common T i j) ≤ bound → Among candidates i
+  pub few : length candidates ≤ rows
 
--- of the first m candidates, r are kept: all but some in whose least load with row j the head of row p fits, and p is not kept
-pub record Sifted (table : List ℕ) (p j : ℕ) (cand grades cand' grades' : List ℕ) (m r : ℕ) : Type 0 where
-  pub from : (k : ℕ) → k < r → (t : ℕ) × (t < m) × (get_or cand' k 0 ≡ get_or cand t 0) × (get_or grades' k 0 ≡ get_or grades t 0)
-  pub kept : (t : ℕ) → t < m → Among cand' r (get_or cand t 0) ⊎ Fits (left_at 12 table p) (common table (get_or cand t 0) j)
-  pub fewer : Among cand m p → r < m
-  pub few : r ≤ m
+-- all candidates are kept but some in whose least load with row j the head of row p fits, and p is not kept
+pub record Sifted (T : List Row) (p j : ℕ) (candidates left : List Candidate) : Type 0 where
+  pub from : (a : Candidate) → a ∈ left → a ∈ candidates
+  pub kept : (a : Candidate) → a ∈ candidates → (a ∈ left) ⊎ Fits (head_at T p) (common T a.row j)
+  pub fewer : Among candidates p → length left < length candidates
+  pub few : length left ≤ length candidates

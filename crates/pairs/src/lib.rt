@@ -1,199 +1,162 @@
 // The list of pairs: which pairs of rows of the working table are to be joined, and at which grade.
 #![tactic(auto)]
 
-ghost use Rattle.std.specs.Prelude.{◌≡◌, ℕ, ◌+◌, ◌*◌, ◌<◌, ◌≤◌, max, length, get_or};
+ghost use Rattle.std.specs.Prelude.{◌≡◌, ℕ, ◌+◌, ◌<◌, ◌≤◌, List, length, MatchOption, Contains};
+ghost use Rattle.std.specs.Iterator.{IsFinite, Drains};
 ghost use Rattle.terms.specs.Decides.{Decides};
 ghost use Rattle.terms.specs.Load.{Fits, grade};
-ghost use Rattle.terms.specs.Flat.{left_at};
 ghost use Rattle.laws.specs.Load.{join, UpTo};
-ghost use Rattle.pairs.specs.Pairs.{common, PairList, NextAbove, Small, Enterable};
+ghost use Rattle.rack.specs.Rows.{as_rows, head_at};
+ghost use Rattle.pairs.specs.Pairs.{common, PairList, NextAbove, Enterable};
 ghost use Rattle.pairs.specs.Candidates.{Picked, Sifted};
 
-use loads::left_of;
+use arrayvec::ArrayVec;
+use rack::Row;
 
-pub fn larger(a: u16, b: u16) -> u16
-    ensures { result ≡ max a b }
-{
-    if a < b { b } else { a }
+// A pair of rows of the working table that is to be joined, and the grade at which it is due.
+#[derive(Clone, Copy, Default)]
+pub struct Pair {
+    pub due: u16,
+    pub first: u8,
+    pub second: u8,
+}
+
+// The number of pairs of 256 rows.
+pub const PAIRS: usize = 32_640;
+
+// A row below the one that is entered, and the grade of the least load that holds both their heads.
+#[derive(Clone, Copy, Default)]
+struct Candidate {
+    row: u8,
+    grade: u16,
 }
 
 // The grade of the least load that holds both.
-pub fn common_grade(sizes: &[u16], a: &[u16], b: &[u16]) -> u32
-    requires { Small sizes.now × Small a.now × Small b.now }
+pub fn common_grade(sizes: &[u16; 12], a: &[u16; 12], b: &[u16; 12]) -> u32
+    requires { UpTo 1000 sizes.now × UpTo 1000 a.now × UpTo 1000 b.now }
     ensures { result ≡ grade sizes.now (join a.now b.now) }
 {
     let mut sum: u32 = 0;
-    let mut i = 0;
-    while i < 12 {
-        sum += (sizes[i] as u32) * (larger(a[i], b[i]) as u32);
-        i += 1;
+    for ((&size, &x), &y) in sizes.iter().zip(a).zip(b) {
+        sum += u32::from(size) * u32::from(x.max(y));
     }
     sum
 }
 
-// Whether p fits in the least load that holds a and b.
-pub fn covers(p: &[u16], a: &[u16], b: &[u16]) -> bool
-    requires { (length p.now ≡ 12) × (length a.now ≡ 12) × (length b.now ≡ 12) }
-    ensures { Decides (Fits p.now (join a.now b.now)) result }
+// Whether p fits in the least load that holds a and b. In the least that holds p and b it does.
+pub fn covers(p: &[u16; 12], a: &[u16; 12], b: &[u16; 12]) -> bool
+    ensures tested { Decides (Fits p.now (join a.now b.now)) result }
+    ensures own { Fits p.now (join p.now b.now) }
 {
     let mut ok = true;
-    let mut i = 0;
-    while i < 12 {
-        if larger(a[i], b[i]) < p[i] {
-            ok = false;
-        }
-        i += 1;
+    for ((&count, &x), &y) in p.iter().zip(a).zip(b) {
+        ok &= count <= x.max(y);
     }
     ok
 }
 
 // The grade of the least load that holds the heads of rows i and j.
-fn pair_grade(sizes: &[u16], table: &[u16], i: usize, j: usize) -> u32
-    requires { Small sizes.now × (i ≤ j) × ((j + 1) * 24 ≤ length table.now) × ((r : ℕ) → r ≤ j → UpTo 1000 (left_at 12 table.now r)) }
-    ensures { result ≡ grade sizes.now (common table.now i j) }
+fn pair_grade(sizes: &[u16; 12], table: &[Row], i: usize, j: usize) -> u32
+    requires { UpTo 1000 sizes.now × (i ≤ j) × (j < length table.now) × ((r : ℕ) → r ≤ j → UpTo 1000 (head_at (as_rows table.now) r)) }
+    ensures { result ≡ grade sizes.now (common (as_rows table.now) i j) }
 {
-    common_grade(sizes, left_of(12, table, i), left_of(12, table, j))
+    common_grade(sizes, &table[i].head, &table[j].head)
 }
 
-// Whether the head of row p fits in the least load that holds the heads of rows i and j.
-fn pair_covered(table: &[u16], p: usize, i: usize, j: usize) -> bool
-    requires { ((p + 1) * 24 ≤ length table.now) × ((i + 1) * 24 ≤ length table.now) × ((j + 1) * 24 ≤ length table.now) }
-    ensures { Decides (Fits (left_at 12 table.now p) (common table.now i j)) result }
+// Whether row i lies below row j, and row p is a pivot of the two: its head fits in the least load that holds their heads.
+fn has_pivot(table: &[Row], p: usize, i: usize, j: usize) -> bool
+    requires { (p ≤ j) × (j < length table.now) }
+    ensures tested { Decides ((i < j) × Fits (head_at (as_rows table.now) p) (common (as_rows table.now) i j)) result }
+    ensures own { i < j → Fits (head_at (as_rows table.now) p) (common (as_rows table.now) p j) }
 {
-    covers(
-        left_of(12, table, p),
-        left_of(12, table, i),
-        left_of(12, table, j),
-    )
+    i < j && covers(&table[p].head, &table[i].head, &table[j].head)
 }
 
 // The rows below j whose least load with row j is within the bound, with the grades.
-fn candidates(
-    sizes: &[u16],
-    bound: u32,
-    table: &[u16],
-    j: usize,
-    cand: &mut [u16],
-    grades: &mut [u16],
-) -> usize
-    requires { Enterable bound sizes.now table.now (j + 1) × (length cand.old ≡ 256) × (length grades.old ≡ 256) }
-    ensures { Picked bound sizes.now table.now j j cand.new grades.new result }
+fn candidates(sizes: &[u16; 12], bound: u32, table: &[Row], j: usize) -> ArrayVec<Candidate, 256>
+    requires { Enterable bound sizes.now (as_rows table.now) (j + 1) }
+    ensures { Picked bound sizes.now (as_rows table.now) j j result.items }
 {
-    let mut m = 0;
-    let mut i = 0;
-    while i < j {
-        let g = pair_grade(sizes, table, i, j);
-        if g <= bound {
-            cand[m] = i as u16;
-            grades[m] = g as u16;
-            m += 1;
+    let mut picked = ArrayVec::new();
+    for i in 0..j {
+        let grade = pair_grade(sizes, table, i, j);
+        if grade <= bound {
+            picked.push(Candidate {
+                row: i as u8,
+                grade: grade as u16,
+            });
         }
-        i += 1;
     }
-    m
+    picked
 }
 
-// A place of least grade. The proof needs no more than a place.
-fn least(grades: &[u16], m: usize) -> usize
-    requires { (0 < m) × (m ≤ length grades.now) }
-    ensures { result < m }
+// A candidate of least grade, or none where there is no candidate. The proof needs no more than a candidate.
+fn least(candidates: &[Candidate]) -> Option<Candidate>
+    ensures { MatchOption result (length candidates.now ≡ 0) (λ a. Contains candidates.now a) }
 {
-    let mut at = 0;
-    let mut i = 1;
-    while i < m {
-        if grades[i] < grades[at] {
-            at = i;
-        }
-        i += 1;
-    }
-    at
+    candidates.iter().min_by_key(|a| a.grade).copied()
 }
 
 // Drops the candidates for which row p is a pivot.
-fn sift(table: &[u16], p: usize, j: usize, cand: &mut [u16], grades: &mut [u16], m: usize) -> usize
-    requires { (m ≤ length cand.old) × (m ≤ length grades.old) × (p < j) × ((j + 1) * 24 ≤ length table.now) × ((s : ℕ) → s < m → get_or cand.old s 0 < j) }
-    ensures { Sifted table.now p j cand.old grades.old cand.new grades.new m result }
+fn sift(table: &[Row], p: usize, j: usize, candidates: &mut ArrayVec<Candidate, 256>)
+    requires { (p < j) × (j < length table.now) }
+    ensures { Sifted (as_rows table.now) p j candidates.old.items candidates.new.items }
 {
-    let mut kept = 0;
-    let mut s = 0;
-    while s < m {
-        let i = cand[s];
-        if !pair_covered(table, p, i as usize, j) {
-            cand[kept] = i;
-            grades[kept] = grades[s];
-            kept += 1;
-        }
-        s += 1;
-    }
-    kept
+    candidates.retain(|a| !has_pivot(table, p, usize::from(a.row), j));
 }
 
-// Enters row j: lists pairs (p, j) until each row below j within the bound has a pivot. Gives the new number of pairs.
+// Enters row j: lists pairs (p, j) until each row below j within the bound has a pivot.
 pub fn enter(
-    sizes: &[u16],
+    sizes: &[u16; 12],
     bound: u32,
-    table: &[u16],
+    table: &[Row],
     j: usize,
-    due: &mut [u16],
-    mates: &mut [u16],
-    pairs: usize,
-) -> usize
-    requires { Enterable bound sizes.now table.now (j + 1) × (length due.old ≡ 32640) × (length mates.old ≡ 32640) × PairList bound sizes.now table.now j due.old mates.old pairs }
-    ensures { PairList bound sizes.now table.now (j + 1) due.new mates.new result }
+    list: &mut ArrayVec<Pair, PAIRS>,
+)
+    requires { Enterable bound sizes.now (as_rows table.now) (j + 1) × PairList bound sizes.now (as_rows table.now) j list.old.items }
+    ensures { PairList bound sizes.now (as_rows table.now) (j + 1) list.new.items }
 {
-    let mut cand = [0u16; 256];
-    let mut grades = [0u16; 256];
-    let mut m = candidates(sizes, bound, table, j, &mut cand, &mut grades);
-    let mut count = pairs;
-    while 0 < m {
-        let at = least(&grades, m);
-        let p = cand[at];
-        due[count] = grades[at];
-        mates[count] = p * 256 + j as u16;
-        count += 1;
-        m = sift(table, p as usize, j, &mut cand, &mut grades, m);
+    let mut candidates = candidates(sizes, bound, table, j);
+    while let Some(pivot) = least(&candidates) {
+        list.push(Pair {
+            due: pivot.grade,
+            first: pivot.row,
+            second: j as u8,
+        });
+        sift(table, usize::from(pivot.row), j, &mut candidates);
     }
-    count
 }
 
 // Enters the rows from base on.
 pub fn enter_all(
-    sizes: &[u16],
+    sizes: &[u16; 12],
     bound: u32,
-    table: &[u16],
+    table: &[Row],
     base: usize,
-    rows: usize,
-    due: &mut [u16],
-    mates: &mut [u16],
-    pairs: usize,
-) -> usize
-    requires { Enterable bound sizes.now table.now rows × (base ≤ rows) × (length due.old ≡ 32640) × (length mates.old ≡ 32640) × PairList bound sizes.now table.now base due.old mates.old pairs }
-    ensures { PairList bound sizes.now table.now rows due.new mates.new result }
+    list: &mut ArrayVec<Pair, PAIRS>,
+)
+    requires { Enterable bound sizes.now (as_rows table.now) (length table.now) × (base ≤ length table.now) × PairList bound sizes.now (as_rows table.now) base list.old.items }
+    ensures { PairList bound sizes.now (as_rows table.now) (length table.now) list.new.items }
 {
-    let mut count = pairs;
-    let mut j = base;
-    while j < rows {
-        count = enter(sizes, bound, table, j, due, mates, count);
-        j += 1;
+    for j in base..table.len() {
+        enter(sizes, bound, table, j, list);
     }
-    count
 }
 
-// The least of the first `count` grades that is above g, or the limit where there is none below it.
-pub fn next_above(grades: &[u16], count: usize, g: usize, limit: usize) -> usize
-    requires { (count ≤ length grades.now) × (g < limit) }
-    ensures { NextAbove grades.now count g limit result }
+// The least of the grades that is above g, or the limit where there is none below it. The limit and no None: `NextAbove` says it so, and
+// the walk over the grades goes on, or ends, with the number as it is.
+pub fn next_above<I: Iterator<Item = u16> + Drop>(grades: I, g: usize, limit: usize) -> usize
+    requires can { I.can_next grades }
+    requires finite { IsFinite (I.remaining grades) }
+    requires below { g < limit }
+    ensures { (all : List ℕ) × Drains I.next_gives grades all × NextAbove all g limit result }
 {
     let mut best = limit;
-    let mut k = 0;
-    while k < count {
-        let d = grades[k] as usize;
-        if g < d {
-            if d < best {
-                best = d;
-            }
-        }
-        k += 1;
+    for due in grades {
+        let grade = usize::from(due);
+        // with no jump in it the loop takes several grades at a time
+        let taken = if g < grade { grade } else { limit };
+        best = best.min(taken);
     }
     best
 }

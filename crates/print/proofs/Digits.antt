@@ -1,13 +1,7 @@
 -- The digits of a number, one by one, and how many there are. Assumes nothing.
-use Prim.Native.Nat.{ℕ, zero, suc, ◌+◌, ◌*◌, ◌/◌, ◌%◌, ◌^◌, ◌<◌, ◌≤◌}
-use mathlib.Core.Path.{◌≡◌, refl, ap}
-use mathlib.Core.Bool.{Bool, true, false, cond}
-use mathlib.Core.List.{List, [], ◌∷◌, ◌++◌}
-use native.Mathlib.Nat.{pow-suc}
-use native.Mathlib.Omega.{arith}
-use lib.Dec.{ltb}
-use lib.ListN.{length, length-append}
-use borrow.Author.Tests.{lt-ltb, le-ltb, ltb-true, ltb-false}
+use Rattle.std.proofs.Common.{ℕ, zero, suc, ◌+◌, ◌/◌, ◌%◌, ◌^◌, ◌<◌, ◌≤◌, ◌≡◌, refl, sym, ap, ◌∙◌, cond, List, [], ◌∷◌, ◌++◌, length, ltb, lt-ltb, le-ltb, arith}
+use Rattle.std.specs.Fmt.{decimal}
+use Rattle.std.proofs.lemmas.Fmt.{decimal_by_steps, length-decimal-le}
 use Rattle.print.specs.Lines.{spelled, digits}
 
 -- room to spell changes nothing where there is enough
@@ -30,14 +24,12 @@ digits_more (suc n) h =
     rw (le-ltb (suc n) 10 h)
     (ap (λ (ds : List ℕ). ds ++ ((48 + suc n % 10) ∷ [])) (spelled_same n (suc n / 10) (suc n / 10) (omega arith) (omega arith)))
 
--- a number below 10 to the k + 1 has at most k + 1 digits
-pub digits_most : (k n : ℕ) → n < 10 ^ suc k → length (digits n) ≤ suc k
-digits_most zero n h = rw (digits_one n h) (omega arith)
-digits_most (suc k) n h = go (ltb n 10) refl (digits_most k (n / 10))
-  where
-    go : (t : Bool) → ltb n 10 ≡ t → (n / 10 < 10 ^ suc k → length (digits (n / 10)) ≤ suc k) → length (digits n) ≤ suc (suc k)
-    go true e rest = rw (digits_one n (ltb-true n 10 e)) (omega arith)
-    go false e rest =
-        let below : n < 10 ^ suc k * 10 = rw (pow-suc 10 (suc k)) at h in
-        rw (digits_more n (ltb-false n 10 e))
-        (omega (arith, rest (omega arith), length-append (digits (n / 10)) ((48 + n % 10) ∷ [])))
+-- they are the decimal text of the library
+pub decimal_digits : (n : ℕ) → n < 2 ^ 64 → decimal n ≡ digits n
+decimal_digits =
+    decimal_by_steps (λ n ds. ds ≡ digits n) (λ n h. sym (digits_one n h))
+    (λ n ds h e. ap (λ (l : List ℕ). l ++ ((48 + n % 10) ∷ [])) e ∙ sym (digits_more n h))
+
+-- a number below 10 to the k has at most k digits
+pub digits_most : (k n : ℕ) → 0 < k → n < 10 ^ k → n < 2 ^ 64 → length (digits n) ≤ k
+digits_most k n positive h word = rw (decimal_digits n word) at (length-decimal-le k n positive h word)

@@ -1,6 +1,5 @@
 -- The lines that the program prints, as lists of bytes.
 use Rattle.std.specs.Prelude.{ℕ, zero, suc, ◌+◌, ◌*◌, ◌/◌, ◌%◌, ◌≤◌, cond, ◌≡◌, List, [], ◌∷◌, ◌++◌, ltb, length}
-use Rattle.std.proofs.lemmas.List.Edits.{sets}
 
 -- the decimal digits of n, the most significant first, with no leading zero; n has at most `more` digits besides the first
 abbrev pub spelled : ℕ → ℕ → List ℕ
@@ -26,6 +25,10 @@ fields = each field
 abbrev pub line : List ℕ → List ℕ → List ℕ
 line letters numbers = letters ++ (fields numbers ++ (10 ∷ []))
 
+-- the counts at the end of a line
+abbrev pub counts_end : List ℕ → List ℕ
+counts_end counts = fields counts ++ (10 ∷ [])
+
 -- `rule`, the head's grade, the row; `done`, the load; `refused`, the reason's number, the line
 abbrev pub rule_line : ℕ → List ℕ → List ℕ
 rule_line grade row = line (114 ∷ 117 ∷ 108 ∷ 101 ∷ []) (grade ∷ row)
@@ -46,11 +49,10 @@ done_most counts = 5 + 6 * counts
 abbrev pub refused_most : ℕ
 refused_most = 50
 
--- the buffer has room for the bytes from `at` on
-abbrev pub Room : List ℕ → ℕ → List ℕ → Type 0
-Room bytes at buffer = at + length bytes ≤ length buffer
+-- after what stands there is room for the bytes, where there is room for so many in all
+abbrev pub Room : List ℕ → List ℕ → ℕ → Type 0
+Room bytes before room = length before + length bytes ≤ room
 
--- the bytes were stored from `at` on, nothing else was changed, and r is the place after them
-pub record Stored (bytes : List ℕ) (at : ℕ) (before : List ℕ) (r : ℕ) (after : List ℕ) : Type 0 where
-  pub next : r ≡ at + length bytes
-  pub holds : after ≡ sets before at bytes
+-- the bytes were appended: they stand after all that stood before, which is unchanged
+abbrev pub Stored : List ℕ → List ℕ → List ℕ → Type 0
+Stored bytes before after = after ≡ before ++ bytes

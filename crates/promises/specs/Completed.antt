@@ -1,8 +1,9 @@
 -- What is known of a rule table that complete accepted, as it left it: the way to the promises.
 -- Assumes nothing.
-use Rattle.std.specs.Prelude.{ℕ, ◌*◌, ◌-◌, ◌/◌, ◌≤◌, ◌<◌, ◌≡◌, List, [], ◌∷◌, ◌++◌, length, ℤ}
+use Rattle.std.specs.Prelude.{ℕ, ◌*◌, ◌-◌, ◌/◌, ◌≤◌, ◌<◌, ◌≡◌, List, [], ◌∷◌, ◌++◌, length, ℤ, Result, Ok}
 use Rattle.std.proofs.Common.{ap, sym, subst, ◌∙◌, arith, mul-le-mul_right, length-append}
 use Rattle.std.proofs.lemmas.List.{length-replicate}
+use Rattle.terms.specs.declared.Refused.{Refused}
 use Rattle.terms.specs.declared.Refusal.{Refusal}
 use Rattle.terms.specs.declared.Refusal.TheVariants.{OverBound}
 use Rattle.terms.specs.Load.{grade, zeros}
@@ -12,6 +13,7 @@ use Rattle.terms.specs.Table.{Row}
 use Rattle.terms.specs.Settling.{Proper}
 use Rattle.terms.specs.Flat.{rows_lent, row_at, table_of, sheet_of, laid}
 use Rattle.terms.specs.Outcome.{must, in_turn}
+use Rattle.terms.specs.Answers.{refuse}
 use Rattle.laws.specs.Outcome.{AllHold, Never, passed, taken, never_append, never_turns, append_hold, hold_append, hold_turns}
 use Rattle.laws.specs.Load.{all_members}
 use Rattle.laws.specs.Numbered.{numbered_in}
@@ -20,32 +22,29 @@ use Rattle.laws.specs.Laid.{laid_long, table_laid}
 use Rattle.bridge.specs.Regular.{Regular, reaches_regular}
 use Rattle.bridge.specs.Theorems.{finished_sides, finished_proper}
 use Rattle.loads.specs.Lent.{Lent}
-use Rattle.settle.specs.declared.Settled.TheVariants.{Refused as SettleRefused}
 use Rattle.settle.specs.Ready.{Ready}
 use Rattle.settle.specs.Call.{row_test, tests}
-use Rattle.complete.specs.declared.Completed.{Completed}
-use Rattle.complete.specs.declared.Completed.TheVariants.{Rows, Refused}
 use Rattle.complete.specs.Call.{swap_tests, input_tests, IsFinished, room_test, tests as completeTests, Accepted, Completing}
 use Rattle.complete.specs.Passed.{Fit, fit_of, fine_kit, table_lent}
 
 -- ---- no refusal of complete answers with a number of rows
 
-differs : {r : ℕ} {table rules : List ℕ} (why : Refusal) (place : ℕ) → ◌≡◌ {A = Completed × List ℕ} (Rows r, table) (Refused why place, rules) → ⊥
-differs why place e = let z : ◌≡◌ {A = ℕ} 0 1 = cc (ap (λ (o : Completed × List ℕ). o.0) e) in omega arith
+differs : {r : ℕ} {table rules : List ℕ} (why : Refusal) (place : ℕ) → ◌≡◌ {A = Result ℕ Refused × List ℕ} (Ok r, table) (refuse why place, rules) → ⊥
+differs why place e = let z : ◌≡◌ {A = ℕ} 0 1 = cc (ap (λ (o : Result ℕ Refused × List ℕ). o.0) e) in omega arith
 
-never_rows : (n bound : ℕ) (sizes : List ℕ) (costs : List ℤ) (swaps rules : List ℕ) (r : ℕ) (table : List ℕ) → Never (Rows r, table) (completeTests n bound sizes costs swaps rules)
+never_rows : (n bound : ℕ) (sizes : List ℕ) (costs : List ℤ) (swaps rules : List ℕ) (r : ℕ) (table : List ℕ) → Never (Ok r, table) (completeTests n bound sizes costs swaps rules)
 never_rows n bound sizes costs swaps rules r table =
-    never_append (Rows r, table) (input_tests n bound sizes costs swaps rules) (room_test n bound sizes costs swaps rules)
-    (differs _ _, (differs _ _, (differs _ _, (differs _ _, (differs _ _, never_turns (Rows r, table) (rows_lent n swaps) (swap_tests n sizes swaps rules) (λ i. (differs _ _, (differs _ _, tt))))))))
+    never_append (Ok r, table) (input_tests n bound sizes costs swaps rules) (room_test n bound sizes costs swaps rules)
+    (differs _ _, (differs _ _, (differs _ _, (differs _ _, (differs _ _, never_turns (Ok r, table) (rows_lent n swaps) (swap_tests n sizes swaps rules) (λ i. (differs _ _, (differs _ _, tt))))))))
     (differs _ _, tt)
 
 -- ---- a table that complete accepted, as it left it
 
-module _ {n bound : ℕ} {sizes : List ℕ} {costs : List ℤ} {swaps rules : List ℕ} {r : ℕ} {table : List ℕ} (c : Completing n bound sizes costs swaps rules (Rows r, table)) where
-  hold : AllHold (input_tests n bound sizes costs swaps rules) × AllHold (room_test n bound sizes costs swaps rules)
+module _ {n bound : ℕ} {sizes : List ℕ} {costs : List ℤ} {swaps rules : List ℕ} {r : ℕ} {table : List ℕ} (c : Completing n bound sizes costs swaps rules (Ok r, table)) where
+  hold : AllHold (input_tests {A = ℕ} n bound sizes costs swaps rules) × AllHold (room_test n bound sizes costs swaps rules)
   hold =
       append_hold (input_tests n bound sizes costs swaps rules) (room_test n bound sizes costs swaps rules)
-      (passed (Accepted n bound sizes costs swaps rules) (completeTests n bound sizes costs swaps rules) (Rows r, table) (never_rows n bound sizes costs swaps rules r table) c)
+      (passed (Accepted n bound sizes costs swaps rules) (completeTests n bound sizes costs swaps rules) (Ok r, table) (never_rows n bound sizes costs swaps rules r table) c)
 
   pub lent_fit : Fit n bound sizes costs swaps
   lent_fit = fit_of n bound sizes costs swaps rules hold.0
@@ -53,16 +52,16 @@ module _ {n bound : ℕ} {sizes : List ℕ} {costs : List ℤ} {swaps rules : Li
   pub reach_regular : Regular n sizes (Reaches (sheet_of n swaps))
   reach_regular = reaches_regular costs (fine_kit lent_fit.kit) (sheet_of n swaps) lent_fit.sheet
 
-  accepted : Accepted n bound sizes costs swaps rules (Rows r, table)
+  accepted : Accepted n bound sizes costs swaps rules (Ok r, table)
   accepted =
-      taken (Accepted n bound sizes costs swaps rules) (completeTests n bound sizes costs swaps rules) (Rows r, table)
+      taken (Accepted n bound sizes costs swaps rules) (completeTests n bound sizes costs swaps rules) (Ok r, table)
       (hold_append (input_tests n bound sizes costs swaps rules) (room_test n bound sizes costs swaps rules) hold.0 hold.1) c
 
   abbrev T : List Row
   T = accepted.0
 
   rows_are : r ≡ length T
-  rows_are = let e : Rows r ≡ Rows (length T) = accepted.2 in cc
+  rows_are = let e : ◌≡◌ {A = Result ℕ Refused} (Ok r) (Ok (length T)) = accepted.2 in cc
 
   sides : All (Sides n) T
   sides = all_members T (finished_sides costs (fine_kit lent_fit.kit) reach_regular accepted.1)
@@ -120,7 +119,7 @@ module _ {n bound : ℕ} {sizes : List ℕ} {costs : List ℤ} {swaps rules : Li
           lent_fit.kit.sizes_fine,
           (
             lent_fit.kit.costs_fine,
-            hold_append (in_turn r (row_test n bound sizes costs table load)) (must (grade sizes load ≤ bound) (SettleRefused OverBound 0, load) ∷ [])
+            hold_append (in_turn r (row_test n bound sizes costs table load)) (must (grade sizes load ≤ bound) (refuse OverBound 0, load) ∷ [])
                 (hold_turns r (row_test n bound sizes costs table load) (λ i m. (proper_at i m, tt))) (l, tt),
           ),
         ),

@@ -1,13 +1,14 @@
--- The promises of document 01, over the contracts of the calls. The table is one that complete accepted, as it left it, with the same kit, bound and number of rows.
---     finished            demand 2: the table is the finished table
---     settled_first       demand 3: settle is done, and leaves the first load in the cost order of all that the sheet's own swaps reach
---     any_sequence        demand 3: applying rows while any fits, in whatever sequence, ends at that load
---     joined              demand 3: settling each, joining and settling gives what joining and settling gives
+-- The promises of the calls, over their contracts. The table is one that complete accepted, as it left it, with the same kit, bound and number of rows.
+--     finished            complete: the table is the finished table
+--     settled_first       settle is done, and leaves the first load in the cost order of all that the sheet's own swaps reach
+--     any_sequence        applying rows while any fits, in whatever sequence, ends at that load
+--     joined              settling each, joining and settling gives what joining and settling gives
 --     one_..              each call: two outcomes that its contract allows are the same
 -- Assumes nothing.
-use Rattle.std.specs.Prelude.{ℕ, ◌+◌, ◌≤◌, ◌≡◌, List, length, ℤ}
+use Rattle.std.specs.Prelude.{ℕ, ◌+◌, ◌≤◌, ◌≡◌, List, length, ℤ, Result, Ok}
 use Rattle.std.proofs.Common.{sym, ◌∙◌, arith}
 use Rattle.std.specs.Borrow.{Bor}
+use Rattle.terms.specs.declared.Refused.{Refused}
 use Rattle.terms.specs.Load.{plus, grade}
 use Rattle.terms.specs.Swaps.{Reaches}
 use Rattle.terms.specs.Table.{FirstReached, Finished}
@@ -18,45 +19,41 @@ use Rattle.laws.specs.Load.{grade_plus, length_both}
 use Rattle.bridge.specs.Theorems as theorems
 use Rattle.compare.specs.Earlier.{Fine, Earlier}
 use Rattle.compare.specs.One.{earlier_one, refused_one}
-use Rattle.settle.specs.declared.Settled.{Settled}
-use Rattle.settle.specs.declared.Settled.TheVariants.{Done}
 use Rattle.settle.specs.Call.{tests, Accepted, Settling}
 use Rattle.settle.specs.One.{settling_one}
-use Rattle.complete.specs.declared.Completed.{Completed}
-use Rattle.complete.specs.declared.Completed.TheVariants.{Rows}
 use Rattle.complete.specs.Call.{Completing}
 use Rattle.complete.specs.Passed.{fine_kit}
 use Rattle.complete.specs.One.{completing_one}
 use Rattle.promises.specs.Completed.{lent_fit, reach_regular, table_finished, settle_holds}
 
-module _ {n bound : ℕ} {sizes : List ℕ} {costs : List ℤ} {swaps rules : List ℕ} {r : ℕ} {table : List ℕ} (c : Completing n bound sizes costs swaps rules (Rows r, table)) where
+module _ {n bound : ℕ} {sizes : List ℕ} {costs : List ℤ} {swaps rules : List ℕ} {r : ℕ} {table : List ℕ} (c : Completing n bound sizes costs swaps rules (Ok r, table)) where
   -- what the sheet's own swaps reach
   abbrev reach : List ℕ → List ℕ → Type 0
   reach = Reaches (sheet_of n swaps)
 
-  -- Demand 2.
+  -- the table is the finished table
   pub finished : Finished n bound sizes costs reach (table_of n table r)
   finished = table_finished c
 
-  module _ {load : List ℕ} (long : length load ≡ n) (small : grade sizes load ≤ bound) {o : Settled × List ℕ} (s : Settling n bound sizes costs table r load o) where
+  module _ {load : List ℕ} (long : length load ≡ n) (small : grade sizes load ≤ bound) {o : Result (Unit {0}) Refused × List ℕ} (s : Settling n bound sizes costs table r load o) where
     accepted : Accepted n table r load o
     accepted = taken (Accepted n table r load) (tests n bound sizes costs table r load) o (settle_holds c load long small) s
 
-    pub settled_first : (o.0 ≡ Done) × FirstReached costs reach load o.1
+    pub settled_first : (o.0 ≡ Ok tt) × FirstReached costs reach load o.1
     settled_first = (accepted.0, theorems.settles_first costs (fine_kit (lent_fit c).kit) (reach_regular c) finished long small accepted.1)
 
     pub any_sequence : {y : List ℕ} → Leads (table_of n table r) load y → NoneFits (table_of n table r) y → y ≡ o.1
     any_sequence l none = theorems.settling_one (theorems.any_sequence costs (fine_kit (lent_fit c).kit) (reach_regular c) finished long small l none) accepted.1
 
-  -- Demand 3, joining: x and y are settled to o and p, their sum to q, and the sum of what was left to t.
+  -- joining: x and y are settled to o and p, their sum to q, and the sum of what was left to t.
   pub joined :
-      {x y : List ℕ} → length x ≡ n → length y ≡ n → grade sizes (plus x y) ≤ bound → {o p q t : Settled × List ℕ}
+      {x y : List ℕ} → length x ≡ n → length y ≡ n → grade sizes (plus x y) ≤ bound → {o p q t : Result (Unit {0}) Refused × List ℕ}
       → Settling n bound sizes costs table r x o → Settling n bound sizes costs table r y p → Settling n bound sizes costs table r (plus x y) q → Settling n bound sizes costs table r (plus o.1 p.1) t
       → t.1 ≡ q.1
   joined {x} {y} ex ey small {o} {p} {q} {t} so sp sq st =
       theorems.settling_one (taken_of (length_both ◌+◌ o.1 p.1 (lo ∙ sym lp) ∙ lo) small' st) together
     where
-      taken_of : {load : List ℕ} → length load ≡ n → grade sizes load ≤ bound → {u : Settled × List ℕ} → Settling n bound sizes costs table r load u → Settles (table_of n table r) load u.1
+      taken_of : {load : List ℕ} → length load ≡ n → grade sizes load ≤ bound → {u : Result (Unit {0}) Refused × List ℕ} → Settling n bound sizes costs table r load u → Settles (table_of n table r) load u.1
       taken_of long small s = (accepted long small s).1
 
       gx : grade sizes x ≤ bound
@@ -87,10 +84,10 @@ module _ {n bound : ℕ} {sizes : List ℕ} {costs : List ℤ} {swaps rules : Li
 
 -- ---- determined
 
-pub one_completion : (n bound : ℕ) (sizes : List ℕ) (costs : List ℤ) (swaps rules : List ℕ) (o p : Completed × List ℕ) → Completing n bound sizes costs swaps rules o → Completing n bound sizes costs swaps rules p → o ≡ p
+pub one_completion : (n bound : ℕ) (sizes : List ℕ) (costs : List ℤ) (swaps rules : List ℕ) (o p : Result ℕ Refused × List ℕ) → Completing n bound sizes costs swaps rules o → Completing n bound sizes costs swaps rules p → o ≡ p
 one_completion = completing_one
 
-pub one_settling : (n bound : ℕ) (sizes : List ℕ) (costs : List ℤ) (rules : List ℕ) (rows : ℕ) (load : List ℕ) (o p : Settled × List ℕ) → Settling n bound sizes costs rules rows load o → Settling n bound sizes costs rules rows load p → o ≡ p
+pub one_settling : (n bound : ℕ) (sizes : List ℕ) (costs : List ℤ) (rules : List ℕ) (rows : ℕ) (load : List ℕ) (o p : Result (Unit {0}) Refused × List ℕ) → Settling n bound sizes costs rules rows load o → Settling n bound sizes costs rules rows load p → o ≡ p
 one_settling = settling_one
 
 -- of earlier of two: the same reference; refused, a part that starts at the same place and holds nothing

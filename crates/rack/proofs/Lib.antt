@@ -1,7 +1,6 @@
 -- Laws that the proofs of `rack` and of the crates above it cite.
 pub mod Weight
-pub mod Alike
-pub mod Place
 pub mod Loaded
+pub mod Found
 pub mod Joining
-pub mod Sorting
+pub mod Held

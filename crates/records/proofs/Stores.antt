@@ -1,56 +1,40 @@
--- Tests of every number of a row, and rows stored in a table, as the loops go. Assumes nothing.
-use Prim.Native.Nat.{ℕ, ◌+◌, ◌≤◌, ◌<◌}
-use mathlib.Core.Path.{◌≡◌, refl, ap}
-use mathlib.Core.List.{List, [], ◌∷◌, ◌++◌, map}
-use mathlib.Core.Bool.{Bool, true, false, cond, ◌&&◌}
-use native.Mathlib.Numerals.{add-one}
-use native.Mathlib.Omega.{arith}
-use lib.IntN.{ℤ}
-use lib.ListN.{length, get_or, take, drop, set, length-drop, drop_of_length-le}
-use lib.Seq.{drop-cons, take-suc, take-suc-set, take-set-le, drop-set-add}
-use borrow.Author.Tests.{le-leb, lt-leb}
+-- Rows stored in a table, as the loop goes. Assumes nothing.
+use Rattle.std.specs.Prelude.{ℕ, ◌+◌, ◌≤◌, ◌<◌, ◌≡◌, refl, List, Bool, true, false, cond, Option, Some, None, length, get_or, take, drop, set, map}
+use Rattle.std.proofs.Common.{ap, ◌∙◌, arith, add-one, drop-cons, take_all, drop_of_length-le, take-suc-set, take-suc}
+use Rattle.std.proofs.lemmas.List.{map-append}
 use Rattle.records.specs.Lines.{all, within}
+use Rattle.records.specs.Steps.{ranged, Stored}
 
-pub false_true : {A : Type 0} → false ≡ true → A
-false_true z = absurd (let y : ◌≡◌ {A = ℕ} 0 1 = ap (λ (t : Bool). cond t 1 0) z in omega arith)
+module _ {A : Type 0} (reads : ℕ → A) (least most : ℕ) (row : List ℕ) (i : ℕ) where
+  abbrev Value : Option A
+  Value = ranged reads least most (get_or row i 0)
 
-and_false : (c : Bool) → (c && false) ≡ false
-and_false true = refl
-and_false false = refl
+  no_value : (t : Bool) → None ≡ cond t (Some (reads (get_or row i 0))) None → t ≡ false
+  no_value true e = cc
+  no_value false e = refl
 
-module _ (least most : ℕ) (row : List ℕ) (i : ℕ) where
-  pub all_done : length row ≤ i → all (within least most) (drop i row) ≡ true
+  some_value : (t : Bool) (x : A) → Some x ≡ cond t (Some (reads (get_or row i 0))) None → (t ≡ true) × (x ≡ reads (get_or row i 0))
+  some_value true x e = (refl, cc)
+  some_value false x e = cc
+
+  pub stops : i < length row → None ≡ Value → false ≡ all (within least most) (drop i row)
   unfolding all
-  all_done h = rw (drop_of_length-le row h)
+  stops h e = rw (drop-cons row i 0 h, no_value (within least most (get_or row i 0)) e)
 
-  module _ (h : i < length row) where
-    pub all_below : get_or row i 0 < least → all (within least most) (drop i row) ≡ false
-    unfolding all
-    all_below n = rw (drop-cons row i 0 h, lt-leb least (get_or row i 0) n)
+  pub goes : (x : A) (table : List A) → i < length row → i < length table → Some x ≡ Value → take i table ≡ map reads (take i row)
+      → (take (i + 1) (set table i x) ≡ map reads (take (i + 1) row)) × (all (within least most) (drop (i + 1) row) ≡ all (within least most) (drop i row))
+  unfolding all
+  goes x table h k e p =
+      let v = some_value (within least most (get_or row i 0)) x e in (
+        rw (add-one i, take-suc-set table i x k, take-suc row i 0 h, map-append, p, v.1),
+        rw (add-one i, drop-cons row i 0 h, v.0),
+      )
 
-    pub all_above : most < get_or row i 0 → all (within least most) (drop i row) ≡ false
-    unfolding all
-    all_above n = rw (drop-cons row i 0 h, lt-leb (get_or row i 0) most n, and_false)
-
-    pub all_next : least ≤ get_or row i 0 → get_or row i 0 ≤ most → all (within least most) (drop i row) ≡ all (within least most) (drop (i + 1) row)
-    unfolding all
-    all_next n m = rw (add-one, drop-cons row i 0 h, le-leb least (get_or row i 0) n, le-leb (get_or row i 0) most m)
-
--- one number more of a row in a table, from at on
-module _ (row table : List ℕ) (at i : ℕ) (h : at + i < length table) (r : i < length row) where
-  pub put_next : take i (drop at table) ≡ take i row → take (i + 1) (drop at (set table (at + i) (get_or row i 0))) ≡ take (i + 1) row
-  put_next e =
-      let k : i < length (drop at table) = rw (length-drop at table) (omega arith) in
-      rw (add-one i, drop-set-add at table i (get_or row i 0), take-suc-set (drop at table) i (get_or row i 0) k, take-suc row i 0 r, e)
-
-  pub put_kept : take at (set table (at + i) (get_or row i 0)) ≡ take at table
-  put_kept = take-set-le at table (at + i) (get_or row i 0) (omega arith)
-
-map_append : {A B : Type 0} (f : A → B) (x y : List A) → map f (x ++ y) ≡ map f x ++ map f y
-map_append f [] y = refl
-map_append f (a ∷ x) y = rw (map_append f x y)
-
--- one cost more
-pub cost_next : (f : ℕ → ℤ) (row : List ℕ) (costs : List ℤ) (i : ℕ) (z : ℤ) → z ≡ f (get_or row i 0) → i < length costs → i < length row → take i costs ≡ map f (take i row) → take (i + 1) (set costs i z) ≡ map f (take (i + 1) row)
-cost_next f row costs i z n h r e =
-    rw (add-one i, take-suc-set costs i z h, take-suc row i 0 r, map_append f (take i row) (get_or row i 0 ∷ []), e, n)
+  pub ends : (table : List A) → length row ≤ i → i ≤ length row → take i table ≡ map reads (take i row) → all (within least most) (drop i row) ≡ all (within least most) row → Stored reads least most row true table
+  unfolding all
+  ends table h k p q =
+      let n : i ≡ length row = omega arith in
+      record {
+        says = rw (drop_of_length-le row h) at q;
+        put = λ e. rw (← n) (p ∙ ap (map reads) (take_all i row h));
+      }

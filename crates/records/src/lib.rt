@@ -1,129 +1,162 @@
 // The lines of a sheet: the shape of a whole line first, then what its numbers may be. A line that is accepted is stored.
+// Each function takes a place of the text and hands the next one back, so that a refusal leaves no reader half moved.
 #![tactic(auto)]
 
-ghost use Rattle.std.specs.Prelude.{◌≡◌, true, map, ◌+◌, ◌*◌, ◌≤◌, length, take, drop};
-ghost use Rattle.terms.specs.Limits.{KindsFine, most_kinds, most_swaps};
+ghost use Rattle.std.specs.Prelude.{ℕ, List, Bool, ◌≡◌, ◌+◌, ◌-◌, ◌*◌, ◌^◌, ◌≤◌, ◌<◌, length, take, drop};
+ghost use Rattle.terms.specs.Limits.{KindsFine, most_kinds, most_size, most_cost, most_swaps, most_count};
 ghost use Rattle.terms.specs.Flat.{left_at, right_at};
-ghost use Rattle.shapes.specs.Split.{split};
-ghost use Rattle.shapes.specs.Rows.{step_got};
-ghost use Rattle.records.specs.Lines.{all, within, kit_line, size_line, cost_line, counts_line, swap_line};
-ghost use Rattle.records.specs.Steps.{kit_got, Stored, cost_from, Recorded, sides_step};
+ghost use Rattle.texts.specs.Number.{cap};
+ghost use Rattle.lines.specs.Fields.{number_of_word};
+ghost use Rattle.shapes.specs.Split.{fine, split, shaped, read_line};
+ghost use Rattle.shapes.specs.Rows.{code_of, numbers_got};
+ghost use Rattle.records.specs.Lines.{after, ask, all, kit_line, size_line, cost_line, counts_line, swap_line};
+ghost use Rattle.records.specs.Steps.{kit_got, ranged, Stored, Coded, cost_from, Recorded, sides_step};
 
-use shapes::Step;
-use terms::{Kit, Refusal};
+use lines::Word;
+use terms::{Kit, Refusal, Refused};
 
-// The kit line: n, B and the place of the next line.
-#[derive(Drop)]
-pub enum KitLine {
-    Kit(usize, usize, usize),
-    Refused(Refusal, usize),
+// The kit line: its kit, and the place of the next line.
+#[derive(Clone, Copy)]
+pub struct KitLine {
+    pub kit: Kit,
+    pub next: usize,
 }
 
-fn wide(x: u32) -> usize
-    ensures { result ≡ x }
+// The line that has to stand at a place, its numbers in the row: the place of the next line.
+fn due_line(
+    text: &[u8],
+    at: usize,
+    line: usize,
+    word: Word,
+    signed: bool,
+    row: &mut [u32],
+) -> Result<usize, Refused>
+    ensures { read_line line (shaped (number_of_word word) (code_of signed) (length row.old)) (split 10 (drop at text.now)) ≡ numbers_got result row.new text.now }
 {
-    x as usize
+    shapes::line_at(text, at, line, word, signed, row)?.ok_or(Refusal::BadLine.at(line))
 }
 
-pub fn kit_line(text: &[u8]) -> KitLine
+// Line 1: the kit, its n and its B within their limits.
+pub fn kit_line(text: &[u8]) -> Result<KitLine, Refused>
     ensures { kit_line (split 10 text.now) ≡ kit_got result text.now }
 {
-    let mut row = [0u32; 2];
-    let Step::On(next) = shapes::line_at(text, 0, 1, lines::KIT, false, &mut row) else {
-        return KitLine::Refused(Refusal::BadLine, 1);
-    };
-    let n = wide(row[0]);
-    let bound = wide(row[1]);
-    if n < 1 {
-        return KitLine::Refused(Refusal::Kinds, 1);
+    let mut row = [0; 2];
+    let next = due_line(text, 0, 1, Word::Kit, false, &mut row)?;
+    let kit = Kit::of(row[0] as usize, row[1] as usize);
+    if !(1..=Kit::KINDS).contains(&kit.kinds) {
+        return Err(Refusal::Kinds.at(1));
     }
-    if Kit::KINDS < n {
-        return KitLine::Refused(Refusal::Kinds, 1);
+    if !(1..=Kit::BOUND).contains(&kit.bound) {
+        return Err(Refusal::Bound.at(1));
     }
-    if bound < 1 {
-        return KitLine::Refused(Refusal::Bound, 1);
-    }
-    if Kit::BOUND < bound {
-        return KitLine::Refused(Refusal::Bound, 1);
-    }
-    KitLine::Kit(n, bound, next)
+    Ok(KitLine { kit, next })
 }
 
-// Stores the numbers of a row from a place on, while each is from `least` to `most`; says whether all are.
-fn stored(row: &[u32], least: u32, most: u32, at: usize, table: &mut [u16]) -> bool
-    requires { (at + length row.now ≤ length table.old) × (most ≤ 65535) }
-    ensures { Stored least most at row.now table.old result table.new }
+// Stores what each number of a row stands for, while each stands for something; says whether all do. A plain flag: what is stored
+// stands in the table, and an Option of nothing would say no more.
+fn stored<T: Copy, F: Fn(u32) -> Option<T>>(row: &[u32], table: &mut [T], read: F) -> bool
+    requires callable { F.IsAlwaysCallable read }
+    requires room { length row.now ≤ length table.old }
+    ensures { (reads : ℕ → _) (least most : ℕ) → ((v : ℕ) (r : _) → v < 2 ^ 32 → F.post read v r → r ≡ ranged reads least most v) → Stored reads least most row.now result table.new }
 {
-    let mut i = 0;
-    while i < row.len() {
-        let v = row[i];
-        if v < least {
+    // By place: after `table.iter_mut().zip(row)` the check knows nothing of what was written.
+    for (i, number) in row.iter().enumerate() {
+        let Some(value) = read(*number) else {
             return false;
-        }
-        if most < v {
-            return false;
-        }
-        table[at + i] = v as u16;
-        i += 1;
+        };
+        table[i] = value;
     }
     true
 }
 
-pub fn size_line(text: &[u8], at: usize, n: usize, sizes: &mut [u16]) -> Step
+// The line of a number for each place of a table, each stored as what it stands for: the place of the next line.
+fn numbers_line<T: Copy, F: Fn(u32) -> Option<T>>(
+    text: &[u8],
+    at: usize,
+    line: usize,
+    word: Word,
+    signed: bool,
+    why: Refusal,
+    table: &mut [T],
+    read: F,
+) -> Result<usize, Refused>
+    requires callable { F.IsAlwaysCallable read }
+    requires room { length table.old ≤ most_kinds }
+    ensures { (num : List ℕ → _) (test : _ → Bool) (reads : ℕ → _) (least most : ℕ) → Coded signed num test reads least most
+        → ((v : ℕ) (r : _) → v < 2 ^ 32 → F.post read v r → r ≡ ranged reads least most v)
+        → after (read_line line (shaped (number_of_word word) num (length table.old)) (split 10 (drop at text.now))) (λ r. ask (all test r.0) why line (fine r)) ≡ numbers_got result table.new text.now }
+{
+    let mut row = [0; Kit::KINDS];
+    let row = &mut row[..table.len()];
+    let next = due_line(text, at, line, word, signed, row)?;
+    if !stored(row, table, read) {
+        return Err(why.at(line));
+    }
+    Ok(next)
+}
+
+// The size that a number of a row stands for, if it is in range.
+fn size_from(number: u32) -> Option<u16>
+    ensures { result ≡ ranged (λ v. v) 1 most_size number }
+{
+    if (1..=Kit::SIZE as u32).contains(&number) {
+        Some(number as u16)
+    } else {
+        None
+    }
+}
+
+// Line 2: a size for each kind.
+pub fn size_line(text: &[u8], at: usize, n: usize, sizes: &mut [u16]) -> Result<usize, Refused>
     requires { (n ≤ most_kinds) × (n ≤ length sizes.old) }
-    ensures { size_line n (split 10 (drop at text.now)) ≡ step_got 2 result (take n sizes.new) text.now }
+    ensures { size_line n (split 10 (drop at text.now)) ≡ numbers_got result (take n sizes.new) text.now }
 {
-    let mut row = [0u32; 12];
-    let Step::On(next) = shapes::line_at(text, at, 2, lines::SIZE, false, &mut row[..n]) else {
-        return Step::Refused(Refusal::BadLine, 2);
-    };
-    if !stored(&row[..n], 1, Kit::SIZE as u32, 0, sizes) {
-        return Step::Refused(Refusal::Size, 2);
+    numbers_line(
+        text,
+        at,
+        2,
+        Word::Size,
+        false,
+        Refusal::Size,
+        &mut sizes[..n],
+        size_from,
+    )
+}
+
+// The cost that stands in a row by its distance above -CAP, if it is in range.
+fn cost_from(code: u32) -> Option<i32>
+    ensures { result ≡ ranged cost_from (cap - most_cost) (cap + most_cost) code }
+{
+    const MOST: u32 = Kit::COST as u32;
+    if (texts::CAP - MOST..=texts::CAP + MOST).contains(&code) {
+        Some(code as i32 - texts::CAP as i32)
+    } else {
+        None
     }
-    Step::On(next)
 }
 
-// The cost that stands in a row by its distance above -CAP.
-fn cost_from(code: u32) -> i32
-    requires { code ≤ 11000000 }
-    ensures { result ≡ cost_from code }
-{
-    code as i32 - 10_000_000
-}
-
-// Stores the costs of a row, while each is in range; says whether all are.
-fn costs_stored(row: &[u32], costs: &mut [i32]) -> bool
-    requires { length row.now ≤ length costs.old }
-    ensures says { result ≡ all (within 9000000 11000000) row.now }
-    ensures put { result ≡ true → take (length row.now) costs.new ≡ map cost_from row.now }
-{
-    let mut i = 0;
-    while i < row.len() {
-        let code = row[i];
-        if code < 9_000_000 {
-            return false;
-        }
-        if 11_000_000 < code {
-            return false;
-        }
-        costs[i] = cost_from(code);
-        i += 1;
-    }
-    true
-}
-
-pub fn cost_line(text: &[u8], at: usize, n: usize, costs: &mut [i32]) -> Step
+// Line 3: a cost for each kind, which may be negative.
+pub fn cost_line(text: &[u8], at: usize, n: usize, costs: &mut [i32]) -> Result<usize, Refused>
     requires { (n ≤ most_kinds) × (n ≤ length costs.old) }
-    ensures { cost_line n (split 10 (drop at text.now)) ≡ step_got 3 result (take n costs.new) text.now }
+    ensures { cost_line n (split 10 (drop at text.now)) ≡ numbers_got result (take n costs.new) text.now }
 {
-    let mut row = [0u32; 12];
-    let Step::On(next) = shapes::line_at(text, at, 3, lines::COST, true, &mut row[..n]) else {
-        return Step::Refused(Refusal::BadLine, 3);
-    };
-    if !costs_stored(&row[..n], costs) {
-        return Step::Refused(Refusal::Cost, 3);
-    }
-    Step::On(next)
+    numbers_line(
+        text,
+        at,
+        3,
+        Word::Cost,
+        true,
+        Refusal::Cost,
+        &mut costs[..n],
+        cost_from,
+    )
+}
+
+// The count that a number of a row stands for, if it is in range.
+fn count_from(number: u32) -> Option<u16>
+    ensures { result ≡ ranged (λ v. v) 0 most_count number }
+{
+    u16::try_from(number).ok()
 }
 
 // The counts of a swap or of a load, where `used` of `room` records of `width` counts stand already.
@@ -131,45 +164,44 @@ pub fn counts_line(
     text: &[u8],
     at: usize,
     line: usize,
-    word: u8,
+    word: Word,
     width: usize,
     used: usize,
     room: usize,
     table: &mut [u16],
-) -> Step
+) -> Result<Option<usize>, Refused>
     requires { (width ≤ 24) × (used ≤ room) × (room * width ≤ length table.old) }
-    ensures { Recorded line word width used at text.now table.old (counts_line line word width used room (split 10 (drop at text.now))) result table.new }
+    ensures { Recorded line (number_of_word word) width used at text.now table.old (counts_line line (number_of_word word) width used room (split 10 (drop at text.now))) result table.new }
 {
-    let mut row = [0u32; 24];
-    match shapes::line_at(text, at, line, word, false, &mut row[..width]) {
-        Step::On(next) => {
-            if room <= used {
-                return Step::Refused(Refusal::Length, line);
-            }
-            if !stored(&row[..width], 0, Kit::COUNT, used * width, table) {
-                return Step::Refused(Refusal::BigCount, line);
-            }
-            Step::On(next)
-        },
-        Step::Other => Step::Other,
-        Step::Refused(reason, bad) => Step::Refused(reason, bad),
+    let mut row = [0; 2 * Kit::KINDS];
+    let row = &mut row[..width];
+    let Some(next) = shapes::line_at(text, at, line, word, false, row)? else {
+        return Ok(None);
+    };
+    if room <= used {
+        return Err(Refusal::Length.at(line));
     }
+    if !stored(row, &mut table[used * width..], count_from) {
+        return Err(Refusal::BigCount.at(line));
+    }
+    Ok(Some(next))
 }
 
 // Whether the swap that was just stored may stand.
-fn judged(line: usize, n: usize, sizes: &[u16], used: usize, swaps: &[u16], next: usize) -> Step
+fn judged(line: usize, n: usize, sizes: &[u16], used: usize, swaps: &[u16]) -> Result<(), Refused>
     requires { KindsFine n × (length sizes.now ≡ n) × (used * (2 * n) + 2 * n ≤ length swaps.now) }
-    ensures { result ≡ sides_step line next sizes.now (left_at n swaps.now used) (right_at n swaps.now used) }
+    ensures { result ≡ sides_step line sizes.now (left_at n swaps.now used) (right_at n swaps.now used) }
 {
     if !sides::unequal(n, swaps, used) {
-        return Step::Refused(Refusal::SameSides, line);
+        return Err(Refusal::SameSides.at(line));
     }
     if !sides::even(n, sizes, swaps, used) {
-        return Step::Refused(Refusal::UnequalGrades, line);
+        return Err(Refusal::UnequalGrades.at(line));
     }
-    Step::On(next)
+    Ok(())
 }
 
+// The line of a swap: its sides differ, and have one grade.
 pub fn swap_line(
     text: &[u8],
     at: usize,
@@ -178,13 +210,13 @@ pub fn swap_line(
     sizes: &[u16],
     used: usize,
     swaps: &mut [u16],
-) -> Step
+) -> Result<Option<usize>, Refused>
     requires { KindsFine n × (length sizes.now ≡ n) × (used ≤ most_swaps) × (most_swaps * (2 * n) ≤ length swaps.old) }
     ensures { Recorded line 3 (2 * n) used at text.now swaps.old (swap_line line n sizes.now used (split 10 (drop at text.now))) result swaps.new }
 {
-    match counts_line(text, at, line, lines::SWAP, 2 * n, used, Kit::SWAPS, swaps) {
-        Step::On(next) => judged(line, n, sizes, used, swaps, next),
-        Step::Other => Step::Other,
-        Step::Refused(reason, bad) => Step::Refused(reason, bad),
-    }
+    let Some(next) = counts_line(text, at, line, Word::Swap, 2 * n, used, Kit::SWAPS, swaps)? else {
+        return Ok(None);
+    };
+    judged(line, n, sizes, used, swaps)?;
+    Ok(Some(next))
 }

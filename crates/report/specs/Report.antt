@@ -1,8 +1,12 @@
 -- The lines of rule tables and of loads, as lists of bytes.
-use Rattle.std.specs.Prelude.{ℕ, zero, suc, ◌*◌, ◌<◌, ◌≤◌, ◌≡◌, ◌⊎◌, List, [], ◌++◌, take, drop}
+use Rattle.std.specs.Prelude.{ℕ, zero, suc, ◌+◌, ◌*◌, ◌<◌, ◌≤◌, ◌≡◌, ◌⊎◌, List, [], ◌++◌, length, take, drop}
 use Rattle.terms.specs.Load.{grade}
 use Rattle.terms.specs.Table.{Row}
+use Rattle.terms.specs.Flat.{table_of}
+use Rattle.terms.specs.Limits.{most_kinds}
 use Rattle.terms.specs.Settling.{Settles}
+use Rattle.settle.specs.Ready.{Ready}
+use Rattle.settle.specs.declared.Table.{Table}
 use Rattle.print.specs.Lines.{each, rule_line, done_line, refused_line, rule_most, done_most, Stored}
 
 -- the line of a row, and the lines of a table
@@ -15,6 +19,18 @@ rule_lines sizes = each (row_line sizes)
 -- the greatest length of a row's line: 24 counts
 abbrev pub row_most : ℕ
 row_most = rule_most 24
+
+-- the rows of a table that are in use
+abbrev pub rows_in : Table → List Row
+rows_in t = table_of t.kit.kinds t.rules.now t.rows
+
+-- so many rows lie within what is lent, for a kit of so many sizes
+abbrev pub Holds : Table → ℕ → Type 0
+Holds t rows = (length t.sizes.now ≡ t.kit.kinds) × (t.kit.kinds ≤ most_kinds) × (rows * (2 * t.kit.kinds) ≤ length t.rules.now)
+
+-- a table to settle by
+abbrev pub ReadyTable : Table → Type 0
+ReadyTable t = Ready t.kit.kinds t.kit.bound t.sizes.now t.costs.now t.rules.now t.rows
 
 -- load i of a flat list of loads
 abbrev pub load_at : ℕ → List ℕ → ℕ → List ℕ
@@ -30,11 +46,18 @@ pub data Lines (Line : ℕ → List ℕ → Type 0) : ℕ → List ℕ → Type 
   none : Lines Line zero []
   more : {k : ℕ} {before last : List ℕ} → Lines Line k before → Line k last → Lines Line (suc k) (before ++ last)
 
--- such bytes were stored from `at` on
-pub record Written (Right : List ℕ → Type 0) (at : ℕ) (before : List ℕ) (next : ℕ) (after : List ℕ) : Type 0 where
+-- such bytes were appended
+pub record Written (Right : List ℕ → Type 0) (before after : List ℕ) : Type 0 where
   pub bytes : List ℕ
   pub right : Right bytes
-  pub stored : Stored bytes at before next after
+  pub stored : Stored bytes before after
+
+-- the line of a load by a table, and the lines of so many loads of a flat list, of which the first stands on the given line
+abbrev pub LineBy : Table → ℕ → List ℕ → List ℕ → Type 0
+LineBy t line x = LoadLine t.kit.bound t.sizes.now (rows_in t) line x
+
+abbrev pub LinesBy : Table → List ℕ → ℕ → ℕ → List ℕ → Type 0
+LinesBy t loads first = Lines (λ i. LineBy t (first + i) (load_at t.kit.kinds loads i))
 
 -- the greatest length of a load's line: 12 counts
 abbrev pub load_most : ℕ

@@ -2,111 +2,79 @@
 #![tactic(auto)]
 
 ghost use Rattle.std.specs.Prelude.{◌+◌, ◌*◌, ◌^◌, ◌<◌, ◌≤◌, ◌≡◌, length};
-ghost use Rattle.terms.specs.Limits.{most_kinds};
-ghost use Rattle.terms.specs.Flat.{row_at, table_of};
+ghost use Rattle.arrayvec.specs.ArrayVec.{array_vec_len};
+ghost use Rattle.terms.specs.Flat.{row_at};
 ghost use Rattle.print.specs.Lines.{Stored};
-ghost use Rattle.settle.specs.Ready.{Ready};
-ghost use Rattle.report.specs.Report.{row_line, rule_lines, row_most, LoadLine, load_at, Lines, Written, load_most};
+ghost use Rattle.report.specs.Report.{row_line, rule_lines, row_most, rows_in, Holds, ReadyTable, LineBy, LinesBy, Written, load_most};
 
-use terms::Refusal;
+use arrayvec::ArrayVec;
+use settle::Table;
+use terms::{Kit, Refusal};
 
-// The line of row r of a flat rule table.
-fn rule_at(out: &mut [u8], at: usize, n: usize, sizes: &[u16], rules: &[u16], r: usize) -> usize
-    requires lengths { (length sizes.now ≡ n) × (n ≤ most_kinds) × (r * (2 * n) + 2 * n ≤ length rules.now) }
-    requires has_room { at + row_most ≤ length out.old }
-    ensures stored { Stored (row_line sizes.now (row_at n rules.now r)) at out.old result out.new }
-    ensures upper_bound { result ≤ at + row_most }
+// The line of row r.
+fn rule_at<const N: usize>(out: &mut ArrayVec<u8, N>, table: &Table<'_>, r: usize)
+    requires lengths { Holds table.now (r + 1) }
+    requires has_room { array_vec_len out.old + row_most ≤ N }
+    ensures stored { Stored (row_line table.now.sizes.now (row_at table.now.kit.kinds table.now.rules.now r)) out.old.items out.new.items }
+    ensures upper_bound { array_vec_len out.new ≤ array_vec_len out.old + row_most }
 {
-    let head = loads::left_of(n, rules, r);
-    let grade = loads::grade_of(sizes, head);
-    let from = r * (2 * n);
-    print::rule_line(out, at, grade, &rules[from..from + 2 * n])
+    let kinds = table.kit.kinds;
+    let head = loads::left_of(kinds, table.rules, r);
+    let grade = loads::grade_of(table.sizes, head);
+    let from = r * (2 * kinds);
+    print::rule_line(out, grade, &table.rules[from..from + 2 * kinds]);
 }
 
-// The lines of the first rows of a flat rule table.
-pub fn rule_lines(
-    out: &mut [u8],
-    at: usize,
-    n: usize,
-    sizes: &[u16],
-    rules: &[u16],
-    rows: usize,
-) -> usize
-    requires lengths { (length sizes.now ≡ n) × (n ≤ most_kinds) × (rows * (2 * n) ≤ length rules.now) }
-    requires has_room { at + rows * row_most ≤ length out.old }
-    ensures stored { Stored (rule_lines sizes.now (table_of n rules.now rows)) at out.old result out.new }
-    ensures upper_bound { result ≤ at + rows * row_most }
+// The lines of the rows in use.
+pub fn rule_lines<const N: usize>(out: &mut ArrayVec<u8, N>, table: &Table<'_>)
+    requires lengths { Holds table.now table.now.rows }
+    requires has_room { array_vec_len out.old + table.now.rows * row_most ≤ N }
+    ensures stored { Stored (rule_lines table.now.sizes.now (rows_in table.now)) out.old.items out.new.items }
+    ensures upper_bound { array_vec_len out.new ≤ array_vec_len out.old + table.now.rows * row_most }
 {
-    let mut next = at;
-    let mut r = 0;
-    while r < rows {
-        next = rule_at(out, next, n, sizes, rules, r);
-        r += 1;
+    for r in 0..table.rows {
+        rule_at(out, table, r);
     }
-    next
 }
 
-// The line of a load, which stands on the given line of the sheet. The load is settled in place.
-fn load_line(
-    out: &mut [u8],
-    at: usize,
-    n: usize,
-    bound: usize,
-    sizes: &[u16],
-    costs: &[i32],
-    rules: &[u16],
-    rows: usize,
-    load: &mut [u16],
+// The line of a load, which stands on the given line of the sheet.
+fn load_line<const N: usize>(
+    out: &mut ArrayVec<u8, N>,
+    table: &Table<'_>,
+    load: &[u16],
     line: usize,
-) -> usize
-    requires ready { Ready n bound sizes.now costs.now rules.now rows × (length load.old ≡ n) }
-    requires has_room { at + load_most ≤ length out.old }
-    ensures written { Written (LoadLine bound sizes.now (table_of n rules.now rows) line load.old) at out.old result out.new }
-    ensures upper_bound { result ≤ at + load_most }
+)
+    requires ready { ReadyTable table.now × (length load.now ≡ table.now.kit.kinds) }
+    requires has_room { array_vec_len out.old + load_most ≤ N }
+    ensures written { Written (LineBy table.now line load.now) out.old.items out.new.items }
+    ensures upper_bound { array_vec_len out.new ≤ array_vec_len out.old + load_most }
 {
-    if bound < loads::grade_of(sizes, load) {
-        return print::refused_line(out, at, numbers::number(Refusal::OverBound) as usize, line);
+    if table.kit.bound < loads::grade_of(table.sizes, load) {
+        print::refused_line(out, u32::from(Refusal::OverBound) as usize, line);
+        return;
     }
-    settle::settle_proper(n, bound, sizes, costs, rules, rows, load);
-    print::done_line(out, at, load)
+    let mut counts = [0u16; Kit::KINDS];
+    let settled = &mut counts[..table.kit.kinds];
+    settled.copy_from_slice(load);
+    table.settle_proper(settled);
+    print::done_line(out, settled);
 }
 
-// The lines of all loads, of which the first stands on the given line of the sheet.
-pub fn load_lines(
-    out: &mut [u8],
-    at: usize,
-    n: usize,
-    bound: usize,
-    sizes: &[u16],
-    costs: &[i32],
-    rules: &[u16],
-    rows: usize,
-    loads: &mut [u16],
+// The lines of `count` loads, of which the first stands on the given line of the sheet.
+pub fn load_lines<const N: usize>(
+    out: &mut ArrayVec<u8, N>,
+    table: &Table<'_>,
+    loads: &[u16],
     count: usize,
     first: usize,
-) -> usize
-    requires ready { Ready n bound sizes.now costs.now rules.now rows × (count * n ≤ length loads.old) × (first + count < 2 ^ 64) }
-    requires has_room { at + count * load_most ≤ length out.old }
-    ensures written { Written (Lines (λ i. LoadLine bound sizes.now (table_of n rules.now rows) (first + i) (load_at n loads.old i)) count) at out.old result out.new }
-    ensures upper_bound { result ≤ at + count * load_most }
+)
+    requires ready { ReadyTable table.now × (count * table.now.kit.kinds ≤ length loads.now) × (first + count < 2 ^ 64) }
+    requires has_room { array_vec_len out.old + count * load_most ≤ N }
+    ensures written { Written (LinesBy table.now loads.now first count) out.old.items out.new.items }
+    ensures upper_bound { array_vec_len out.new ≤ array_vec_len out.old + count * load_most }
 {
-    let mut next = at;
-    let mut i = 0;
-    while i < count {
-        let from = i * n;
-        next = load_line(
-            out,
-            next,
-            n,
-            bound,
-            sizes,
-            costs,
-            rules,
-            rows,
-            &mut loads[from..from + n],
-            first + i,
-        );
-        i += 1;
+    let loads = loads.chunks_exact(table.kit.kinds).take(count);
+    for (i, load) in loads.enumerate() {
+        load_line(out, table, load, first + i);
     }
-    next
 }

@@ -19,11 +19,21 @@ use Rattle.leap.specs.Rounds.{wents, tops, Rounds, Calm}
 use Rattle.leap.specs.Way.{wents_zero, tops_zero, wents_fit, wents_next, wents_within, tops_small}
 use Rattle.settle.specs.Ready.{Ready}
 
+-- x has n counts within the bound, and what it settles to is what x₀ settles to
+pub record Run (n bound : ℕ) (sizes : List ℕ) (rules : List ℕ) (rows : ℕ) (x₀ x : List ℕ) : Type 0 where
+  pub long : length x ≡ n
+  pub small : grade sizes x ≤ bound
+  pub leads : (y : List ℕ) → Settles (table_of n rules rows) x y → Settles (table_of n rules rows) x₀ y
+
+-- and r is the first row that fits in x, or `rows`
 pub record Going (n bound : ℕ) (sizes : List ℕ) (rules : List ℕ) (rows : ℕ) (x₀ x : List ℕ) (r : ℕ) : Type 0 where
   pub long : length x ≡ n
   pub small : grade sizes x ≤ bound
   pub at : FirstRow n rules rows x r
   pub leads : (y : List ℕ) → Settles (table_of n rules rows) x y → Settles (table_of n rules rows) x₀ y
+
+pub going_of : {n bound : ℕ} {sizes rules : List ℕ} {rows : ℕ} {x₀ x : List ℕ} {r : ℕ} → Run n bound sizes rules rows x₀ x → FirstRow n rules rows x r → Going n bound sizes rules rows x₀ x r
+going_of run first = record { long = run.long; small = run.small; at = first; leads = run.leads }
 
 module _ (n bound : ℕ) (sizes : List ℕ) (costs : List ℤ) (rules : List ℕ) (rows : ℕ) (ready : Ready n bound sizes costs rules rows) where
   pub ready_kit : IsKit n sizes
@@ -68,9 +78,11 @@ module _ (n bound : ℕ) (sizes : List ℕ) (costs : List ℤ) (rules : List ℕ
       run_falls =
           (before_laws costs n).rank_less bound y x run_long going.long (counts_small y run_long run_small) (counts_small x going.long going.small) run_fallen.before
 
+      pub run_on : Run n bound sizes rules rows x₀ y
+      run_on = record { long = run_long; small = run_small; leads = λ z p. going.leads z (walks_settles (stride_walks strides) p) }
+
       pub run_goes : (s : ℕ) → FirstRow n rules rows y s → Going n bound sizes rules rows x₀ y s
-      run_goes s f =
-          record { long = run_long; small = run_small; at = f; leads = λ z p. going.leads z (walks_settles (stride_walks strides) p) }
+      run_goes s f = going_of run_on f
 
     module _ (in_use : r < rows) where
       -- ---- the row applied many times, as h and t

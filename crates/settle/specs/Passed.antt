@@ -1,19 +1,19 @@
 -- What the tests of settle show where all are passed.
 -- Assumes nothing.
-use Rattle.std.specs.Prelude.{ℕ, ◌≤◌, ◌≡◌, List, [], ◌∷◌, length, ℤ}
+use Rattle.std.specs.Prelude.{ℕ, ◌≤◌, ◌≡◌, List, [], ◌∷◌, length, ℤ, Result, Ok}
 use Rattle.std.proofs.Common.{ap, arith}
+use Rattle.terms.specs.declared.Refused.{Refused}
 use Rattle.terms.specs.declared.Refusal.{Refusal}
 use Rattle.terms.specs.declared.Refusal.TheVariants.{OverBound}
 use Rattle.terms.specs.Load.{grade}
 use Rattle.terms.specs.Outcome.{must, in_turn, Outcome}
+use Rattle.terms.specs.Answers.{refuse}
 use Rattle.laws.specs.Outcome.{AllHold, Never, passed, never_append, never_turns, append_hold, turns_hold}
 use Rattle.laws.specs.Flat.{rows_in}
-use Rattle.settle.specs.declared.Settled.{Settled}
-use Rattle.settle.specs.declared.Settled.TheVariants.{Done, Refused}
 use Rattle.settle.specs.Ready.{Ready}
 use Rattle.settle.specs.Call.{row_test, tests}
 
-pub refused_not_done : (why : Refusal) (place : ℕ) → Done ≡ Refused why place → ⊥
+pub refused_not_done : (why : Refusal) (place : ℕ) → ◌≡◌ {A = Result (Unit {0}) Refused} (Ok tt) (refuse why place) → ⊥
 refused_not_done why place e = let z : ◌≡◌ {A = ℕ} 0 1 = cc in omega arith
 
 -- what settling asks of its table and its load
@@ -23,20 +23,20 @@ pub record Fit (n bound : ℕ) (sizes : List ℕ) (costs : List ℤ) (rules : Li
   pub small : grade sizes load ≤ bound
 
 module _ (n bound : ℕ) (sizes : List ℕ) (costs : List ℤ) (rules : List ℕ) (rows : ℕ) (load : List ℕ) where
-  differs : (why : Refusal) (place : ℕ) → ◌≡◌ {A = Settled × List ℕ} (Done, load) (Refused why place, load) → ⊥
-  differs why place e = refused_not_done why place (ap (λ (o : Settled × List ℕ). o.0) e)
+  differs : (why : Refusal) (place : ℕ) → ◌≡◌ {A = Result (Unit {0}) Refused × List ℕ} (Ok tt, load) (refuse why place, load) → ⊥
+  differs why place e = refused_not_done why place (ap (λ (o : Result (Unit {0}) Refused × List ℕ). o.0) e)
 
   -- no test answers done
-  never_done : Never (Done, load) (tests n bound sizes costs rules rows load)
-  never_done = (differs _ _, (differs _ _, (differs _ _, (differs _ _, (differs _ _, never_append (Done, load) (in_turn rows (row_test n bound sizes costs rules load)) (must (grade sizes load ≤ bound) (Refused OverBound 0, load) ∷ []) (never_turns (Done, load) rows (row_test n bound sizes costs rules load) (λ i. (differs _ _, tt))) (differs _ _, tt))))))
+  never_done : Never (Ok tt, load) (tests n bound sizes costs rules rows load)
+  never_done = (differs _ _, (differs _ _, (differs _ _, (differs _ _, (differs _ _, never_append (Ok tt, load) (in_turn rows (row_test n bound sizes costs rules load)) (must (grade sizes load ≤ bound) (refuse OverBound 0, load) ∷ []) (never_turns (Ok tt, load) rows (row_test n bound sizes costs rules load) (λ i. (differs _ _, tt))) (differs _ _, tt))))))
 
-  pub all_passed : Outcome (λ o. o.0 ≡ Done) (tests n bound sizes costs rules rows load) (Done, load) → AllHold (tests n bound sizes costs rules rows load)
-  all_passed = passed (λ o. o.0 ≡ Done) (tests n bound sizes costs rules rows load) (Done, load) never_done
+  pub all_passed : Outcome (λ o. o.0 ≡ Ok tt) (tests n bound sizes costs rules rows load) (Ok tt, load) → AllHold (tests n bound sizes costs rules rows load)
+  all_passed = passed (λ o. o.0 ≡ Ok tt) (tests n bound sizes costs rules rows load) (Ok tt, load) never_done
 
   pub fit_of : AllHold (tests n bound sizes costs rules rows load) → Fit n bound sizes costs rules rows load
   fit_of h =
       let lengths = h.1.1.0 in
-      let rest = append_hold (in_turn rows (row_test n bound sizes costs rules load)) (must (grade sizes load ≤ bound) (Refused OverBound 0, load) ∷ []) h.1.1.1.1.1 in
+      let rest = append_hold (in_turn rows (row_test n bound sizes costs rules load)) (must (grade sizes load ≤ bound) (refuse OverBound 0, load) ∷ []) h.1.1.1.1.1 in
       record {
         ready = record {
           kinds = h.0;

@@ -1,7 +1,7 @@
 // Settling a load by a rule table.
 #![tactic(auto)]
 
-ghost use Rattle.std.specs.Prelude.{◌≡◌, ◌≤◌, ◌*◌, ◌+◌, length};
+ghost use Rattle.std.specs.Prelude.{◌≡◌, ◌≤◌, ◌<◌, ◌*◌, ◌+◌, length, Ok, IfSome, unwrap_or};
 ghost use Rattle.terms.specs.Decides.{Decides};
 ghost use Rattle.terms.specs.Load.{grade};
 ghost use Rattle.terms.specs.Limits.{KindsFine};
@@ -11,147 +11,93 @@ ghost use Rattle.terms.specs.Outcome.{Outcome};
 ghost use Rattle.settle.specs.Ready.{Ready, LowestBad};
 ghost use Rattle.settle.specs.Call.{Lengths, tests, Settling};
 
-use terms::{Kit, Refusal};
+use terms::{Kit, Refusal, Refused};
 
-// What settling answers: done, or why not, with the row's number for a bad row and 0 for any other reason.
+// A kit with its rule table, as they are lent: the first `rows` rows of `rules` are in use.
 #[derive(Clone, Copy)]
-pub enum Settled {
-    Done,
-    Refused(Refusal, usize),
+pub struct Table<'a> {
+    pub kit: Kit,
+    pub sizes: &'a [u16],
+    pub costs: &'a [i32],
+    pub rules: &'a [u16],
+    pub rows: usize,
 }
 
-// Whether the lent tables have the lengths that n asks.
-pub fn lengths_fine(
-    n: usize,
-    sizes: &[u16],
-    costs: &[i32],
-    rules: &[u16],
-    rows: usize,
-    load: &[u16],
-) -> bool
-    requires { KindsFine n }
-    ensures { Decides (Lengths n sizes.now costs.now rules.now rows load.now) result }
-{
-    if sizes.len() != n {
-        return false;
+impl Table<'_> {
+    // Whether what is lent has the lengths that the number of kinds asks.
+    pub fn lengths_fine(&self, load: &[u16]) -> bool
+        requires { KindsFine self.now.kit.kinds }
+        ensures { Decides (Lengths self.now.kit.kinds self.now.sizes.now self.now.costs.now self.now.rules.now self.now.rows load.now) result }
+    {
+        let n = self.kit.kinds;
+        self.sizes.len() == n
+            && self.costs.len() == n
+            && load.len() == n
+            && loads::lent(n, Kit::ROWS, self.rules)
+            && self.rows <= self.rules.len() / (2 * n)
     }
-    if costs.len() != n {
-        return false;
-    }
-    if load.len() != n {
-        return false;
-    }
-    if !loads::lent(n, Kit::ROWS, rules) {
-        return false;
-    }
-    rows <= rules.len() / (2 * n)
-}
 
-// Whether row r is proper. Its sides are handed on as parts from the middle of the table.
-pub fn row_proper(
-    n: usize,
-    bound: usize,
-    sizes: &[u16],
-    costs: &[i32],
-    rules: &[u16],
-    r: usize,
-) -> bool
-    requires { KindsFine n × (r * (2 * n) + 2 * n ≤ length rules.now) × (length sizes.now ≡ n) × (length costs.now ≡ n) }
-    ensures { Decides (Proper bound sizes.now costs.now (row_at n rules.now r)) result }
-{
-    let head = loads::left_of(n, rules, r);
-    let tail = loads::right_of(n, rules, r);
-    let grade = loads::grade_of(sizes, head);
-    if grade != loads::grade_of(sizes, tail) {
-        return false;
+    // Whether row r is proper. Its sides are handed on as parts from the middle of the table.
+    pub fn row_proper(&self, r: usize) -> bool
+        requires { KindsFine self.now.kit.kinds × (r * (2 * self.now.kit.kinds) + 2 * self.now.kit.kinds ≤ length self.now.rules.now) × (length self.now.sizes.now ≡ self.now.kit.kinds) × (length self.now.costs.now ≡ self.now.kit.kinds) }
+        ensures { Decides (Proper self.now.kit.bound self.now.sizes.now self.now.costs.now (row_at self.now.kit.kinds self.now.rules.now r)) result }
+    {
+        let row = loads::row_of(self.kit.kinds, self.rules, r);
+        let grade = loads::grade_of(self.sizes, row.head);
+        grade == loads::grade_of(self.sizes, row.tail)
+            && grade <= self.kit.bound
+            && compare::comes_before(self.costs, row.tail, row.head)
     }
-    if bound < grade {
-        return false;
-    }
-    compare::comes_before(costs, tail, head)
-}
 
-// The lowest row in use that is not proper, or the number of rows.
-pub fn first_bad(
-    n: usize,
-    bound: usize,
-    sizes: &[u16],
-    costs: &[i32],
-    rules: &[u16],
-    rows: usize,
-) -> usize
-    requires { KindsFine n × (rows * (2 * n) ≤ length rules.now) × (length sizes.now ≡ n) × (length costs.now ≡ n) }
-    ensures { LowestBad n bound sizes.now costs.now rules.now rows result }
-{
-    let mut r = 0;
-    while r < rows {
-        if !row_proper(n, bound, sizes, costs, rules, r) {
-            return r;
+    // The lowest row in use that is not proper.
+    pub fn first_bad(&self) -> Option<usize>
+        requires { KindsFine self.now.kit.kinds × (self.now.rows * (2 * self.now.kit.kinds) ≤ length self.now.rules.now) × (length self.now.sizes.now ≡ self.now.kit.kinds) × (length self.now.costs.now ≡ self.now.kit.kinds) }
+        ensures first { LowestBad self.now.kit.kinds self.now.kit.bound self.now.sizes.now self.now.costs.now self.now.rules.now self.now.rows (unwrap_or result self.now.rows) }
+        ensures in_table { IfSome result (λ r. r < self.now.rows) }
+    {
+        (0..self.rows).find(|&r| !self.row_proper(r))
+    }
+
+    // The first test that fails, as the refusal. It only reads.
+    pub fn tested(&self, load: &[u16]) -> Result<(), Refused>
+        ensures { Outcome (λ o. o.0 ≡ Ok tt) (tests self.now.kit.kinds self.now.kit.bound self.now.sizes.now self.now.costs.now self.now.rules.now self.now.rows load.now) (result, load.now) }
+    {
+        if !loads::in_range(self.kit.kinds, Kit::KINDS) {
+            return Err(Refusal::Kinds.at(0));
         }
-        r += 1;
+        if !loads::in_range(self.kit.bound, Kit::BOUND) {
+            return Err(Refusal::Bound.at(0));
+        }
+        if !self.lengths_fine(load) {
+            return Err(Refusal::Length.at(0));
+        }
+        if !loads::sizes_fine(self.sizes) {
+            return Err(Refusal::Size.at(0));
+        }
+        if !compare::costs_fine(self.costs) {
+            return Err(Refusal::Cost.at(0));
+        }
+        if let Some(bad) = self.first_bad() {
+            return Err(Refusal::BadRow.at(bad));
+        }
+        if self.kit.bound < loads::grade_of(self.sizes, load) {
+            return Err(Refusal::OverBound.at(0));
+        }
+        Ok(())
     }
-    r
-}
 
-// The first reason to refuse, or done where there is none. It only reads.
-pub fn refusal(
-    n: usize,
-    bound: usize,
-    sizes: &[u16],
-    costs: &[i32],
-    rules: &[u16],
-    rows: usize,
-    load: &[u16],
-) -> Settled
-    ensures { Outcome (λ o. o.0 ≡ Settled.Done) (tests n bound sizes.now costs.now rules.now rows load.now) (result, load.now) }
-{
-    if !loads::in_range(n, Kit::KINDS) {
-        return Settled::Refused(Refusal::Kinds, 0);
-    }
-    if !loads::in_range(bound, Kit::BOUND) {
-        return Settled::Refused(Refusal::Bound, 0);
-    }
-    if !lengths_fine(n, sizes, costs, rules, rows, load) {
-        return Settled::Refused(Refusal::Length, 0);
-    }
-    if !loads::sizes_fine(sizes) {
-        return Settled::Refused(Refusal::Size, 0);
-    }
-    if !compare::costs_fine(costs) {
-        return Settled::Refused(Refusal::Cost, 0);
-    }
-    let bad = first_bad(n, bound, sizes, costs, rules, rows);
-    if bad < rows {
-        return Settled::Refused(Refusal::BadRow, bad);
-    }
-    if bound < loads::grade_of(sizes, load) {
-        return Settled::Refused(Refusal::OverBound, 0);
-    }
-    Settled::Done
-}
-
-// While a row's head fits in the load, the first such row is applied, as often at once as single steps would apply it. Every row is proper.
-pub fn settle_proper(
-    n: usize,
-    bound: usize,
-    sizes: &[u16],
-    costs: &[i32],
-    rules: &[u16],
-    rows: usize,
-    load: &mut [u16],
-)
-    requires ready { Ready n bound sizes.now costs.now rules.now rows }
-    requires load_fine { (length load.old ≡ n) × (grade sizes.now load.old ≤ bound) }
-    ensures { Settles (table_of n rules.now rows) load.old load.new }
-{
-    let mut r = loads::first_fit(n, rules, rows, load);
-    while r < rows {
-        let h = loads::left_of(n, rules, r);
-        let t = loads::right_of(n, rules, r);
-        let most = leap::rounds_of(h, t, load);
-        let more = leap::calm(n, rules, r, h, t, load, most);
-        leap::leap_in(more, h, t, load);
-        r = loads::first_fit(n, rules, rows, load);
+    // While a row's head fits in the load, the first such row is applied, as often at once as single steps would apply it. Every row is proper.
+    pub fn settle_proper(&self, load: &mut [u16])
+        requires ready { Ready self.now.kit.kinds self.now.kit.bound self.now.sizes.now self.now.costs.now self.now.rules.now self.now.rows }
+        requires load_fine { (length load.old ≡ self.now.kit.kinds) × (grade self.now.sizes.now load.old ≤ self.now.kit.bound) }
+        ensures { Settles (table_of self.now.kit.kinds self.now.rules.now self.now.rows) load.old load.new }
+    {
+        while let Some(r) = loads::first_fit(self.kit.kinds, self.rules, self.rows, load) {
+            let row = loads::row_of(self.kit.kinds, self.rules, r);
+            let most = leap::rounds_of(&row, load);
+            let more = leap::calm(self.kit.kinds, self.rules, r, &row, load, most);
+            leap::leap_in(more, &row, load);
+        }
     }
 }
 
@@ -163,15 +109,17 @@ pub fn settle(
     rules: &[u16],
     rows: usize,
     load: &mut [u16],
-) -> Settled
+) -> Result<(), Refused>
     ensures { Settling kit.kinds kit.bound sizes.now costs.now rules.now rows load.old (result, load.new) }
 {
-    let n = kit.kinds;
-    let bound = kit.bound;
-    let answer = refusal(n, bound, sizes, costs, rules, rows, load);
-    let Settled::Done = answer else {
-        return answer;
+    let table = Table {
+        kit,
+        sizes,
+        costs,
+        rules,
+        rows,
     };
-    settle_proper(n, bound, sizes, costs, rules, rows, load);
-    Settled::Done
+    table.tested(load)?;
+    table.settle_proper(load);
+    Ok(())
 }

@@ -1,12 +1,5 @@
 -- The pieces of a text at its line feeds, and of its first line at the tabs: how they begin, as a reader meets them. Assumes nothing.
-use Prim.Native.Nat.{ℕ}
-use mathlib.Core.Path.{◌≡◌, refl, ap, sym, ◌∙◌}
-use mathlib.Core.List.{List, [], ◌∷◌}
-use mathlib.Core.Bool.{Bool, true, false, cond, ◌||◌}
-use lib.Dec.{eqb}
-use lib.ListN.{length, drop}
-use native.Mathlib.Omega.{arith}
-use borrow.Author.Tests.{eqb-true}
+use Rattle.std.proofs.Common.{ℕ, ◌≡◌, refl, ap, sym, ◌∙◌, List, [], ◌∷◌, Bool, true, false, cond, ◌||◌, eqb, length, drop, arith, eqb-true}
 use Rattle.texts.specs.Number.{piece, closed}
 use Rattle.shapes.specs.Split.{onto, split, first, rest}
 

@@ -1,32 +1,23 @@
 -- The swap lines and the load lines of a text, one turn of a loop a line. Assumes nothing.
-use Prim.Native.Nat.{ℕ, zero, suc, ◌+◌, ◌*◌, ◌≤◌, ◌<◌}
-use mathlib.Core.Path.{◌≡◌, refl, ap, sym, ◌∙◌}
-use mathlib.Core.List.{List, [], ◌∷◌, ◌++◌}
-use mathlib.Core.Bool.{Bool, true, false, cond, not, ◌&&◌}
-use mathlib.Core.Option.{Option, none, some}
-use native.Mathlib.Omega.{arith}
-use native.Mathlib.Nat.{add-zero, zero-mul, add-mul, one-mul, suc-add, zero-add}
-use lib.Dec.{ltb, eqb}
-use lib.ListN.{length, get_or, take, drop, drop_of_length-le}
-use lib.Seq.{drop-cons, take-nil}
+use Rattle.std.specs.Prelude.{ℕ, zero, suc, ◌+◌, ◌*◌, ◌≤◌, ◌<◌, ◌≡◌, refl, List, [], ◌∷◌, ◌++◌, Bool, true, false, cond, not, ◌&&◌, ltb, eqb, Some, None, Result, Ok, Err, length, get_or, take, drop}
+use Rattle.std.proofs.Common.{ap, sym, ◌∙◌, arith, add-zero, zero-mul, add-mul, one-mul, suc-add, zero-add, drop_of_length-le, drop-cons}
+use Rattle.std.proofs.Math.Option.{Option, none, some}
+use Rattle.std.proofs.Math.Seq.{take-nil}
+use Rattle.std.specs.Prelude as std
 use Rattle.terms.specs.declared.Refusal.{Refusal}
+use Rattle.terms.specs.declared.Refused.{Refused}
 use Rattle.terms.specs.declared.Refusal.TheVariants.{Length, BadLine, BigCount, SameSides, UnequalGrades}
 use Rattle.terms.specs.Load.{grade}
 use Rattle.texts.specs.Number.{number_of, piece, closed}
 use Rattle.lines.specs.Fields.{word_of, same}
-use Rattle.shapes.specs.declared.Step.{Step}
-use Rattle.shapes.specs.declared.Step.TheVariants.{On, Other, Refused}
 use Rattle.shapes.specs.Split.{Got, fine, wrong, split, first, rest, is_word, shaped, lined, read_line}
 use Rattle.shapes.specs.Rows.{is_empty, step_got, is_other, begun_in}
 use Rattle.shapes.proofs.Parted.{some_piece, begins, no_line}
 use Rattle.records.specs.Lines.{Pieces, after, ask, all, within, counts_line, sides_of, swap_line}
 use Rattle.records.specs.Steps.{Recorded}
-use Rattle.records.proofs.Codes.{clash}
+use Rattle.records.proofs.Codes.{and_right}
 use Rattle.records.proofs.Answers.{had_room}
 use Rattle.sheet.specs.Sheet.{Records, load_lines, loads_after, swap_lines}
-
-true_false : {A : Type 0} → true ≡ false → A
-true_false z = absurd (let y : ◌≡◌ {A = ℕ} 0 1 = ap (λ (t : Bool). cond t 0 1) z in omega arith)
 
 -- ## What is read of a line leaves the pieces after it
 
@@ -72,10 +63,7 @@ first_plain b l e = rw (e, some_piece 10 l)
 
 first_feed : (b : ℕ) (l : List ℕ) → eqb b 10 ≡ true → rest (split 10 (b ∷ l)) ≡ [] → ⊥
 unfolding split
-first_feed b l e r =
-    let z : split 10 l ≡ [] = rw e at r in
-    let y : ◌≡◌ {A = ℕ} (suc (length (rest (split 10 l)))) 0 = ap length (sym (some_piece 10 l) ∙ z) in
-    omega arith
+first_feed b l e r = let z = some_piece 10 l in let y : split 10 l ≡ [] = rw e at r in cc
 
 by_byte : (b : ℕ) (l : List ℕ) (t : Bool) → eqb b 10 ≡ t → rest (split 10 (b ∷ l)) ≡ [] → is_empty (first (split 10 (b ∷ l))) ≡ false
 by_byte b l true e r = absurd (first_feed b l e r)
@@ -125,7 +113,7 @@ module _ (n : ℕ) (sizes : List ℕ) (used : ℕ) (so : List ℕ) where
   unfolding swap_lines
   no_line_swap [] r = refl
   no_line_swap (p ∷ []) r = refl
-  no_line_swap (l ∷ (m ∷ ls)) r = absurd (let y : ◌≡◌ {A = ℕ} (suc (length ls)) 0 = ap length r in omega arith)
+  no_line_swap (l ∷ (m ∷ ls)) r = cc
 
   -- the word that begins the text is not swap
   pub other_word : (l : List ℕ) → begun_in 3 l ≡ false → swap_lines n sizes used so (split 10 l) ≡ loads_after n used so (split 10 l)
@@ -140,11 +128,7 @@ module _ (n : ℕ) (sizes : List ℕ) (used : ℕ) (so : List ℕ) where
   no_text s at h = other_word (drop at s) (rw (drop_of_length-le s h))
 
 some_pieces : (l : List ℕ) → split 10 l ≡ [] → ⊥
-some_pieces l e = let y : ◌≡◌ {A = ℕ} (suc (length (rest (split 10 l)))) 0 = ap length (sym (some_piece 10 l) ∙ e) in omega arith
-
-and_right : (p q : Bool) → (p && q) ≡ true → q ≡ true
-and_right true q e = e
-and_right false q e = true_false (sym e)
+some_pieces l e = let z = some_piece 10 l in cc
 
 not_begun : (b : Bool) → false ≡ not b → b ≡ true
 not_begun true e = refl
@@ -165,6 +149,9 @@ none_yet width table = rw (zero-mul width)
 
 -- ## Turns of the loops
 
+abbrev Step : Type 0
+Step = Result (std.Option ℕ) Refused
+
 -- a turn of the loads: the line at `at` is answered by r
 module _ (n from used at : ℕ) (s before table : List ℕ) (r : Step) (h : at < length s)
     (rec : Recorded (from + used) 4 n used at s before (counts_line (from + used) 4 n used 1024 (split 10 (drop at s))) r table) where
@@ -176,18 +163,18 @@ module _ (n from used at : ℕ) (s before table : List ℕ) (r : Step) (h : at <
       load_line n from used (take (used * n) before) (split 10 (drop at s)) (some_text s at h)
       ∙ ap (λ (g : Got (List ℕ × Pieces)). after g (λ x. load_lines n from (used + 1) (take (used * n) before ++ x.0) x.1)) rec.is
 
-  pub load_on : (next : ℕ) → r ≡ On next → (used < 1024) × (load_lines n from (used + 1) (take ((used + 1) * n) table) (split 10 (drop next s)) ≡ Now)
+  pub load_on : (next : ℕ) → r ≡ Ok (Some next) → (used < 1024) × (load_lines n from (used + 1) (take ((used + 1) * n) table) (split 10 (drop next s)) ≡ Now)
   load_on next e = (
     had_room (from + used) 4 n used 1024 (split 10 (drop at s)) _ (rec.is ∙ ap (λ (q : Step). step_got (from + used) q (take n (drop (used * n) table)) s) e),
     ap (λ (c : List ℕ). load_lines n from (used + 1) c (split 10 (drop next s))) (one_more used n before table rec.kept)
         ∙ sym (load_said ∙ ap (λ (q : Step). after (step_got (from + used) q (take n (drop (used * n) table)) s) (λ x. load_lines n from (used + 1) (take (used * n) before ++ x.0) x.1)) e),
   )
 
-  pub load_other : r ≡ Other → Now ≡ wrong BadLine (from + used)
+  pub load_other : r ≡ Ok None → Now ≡ wrong BadLine (from + used)
   load_other e = load_said ∙ ap (λ (q : Step). after (step_got (from + used) q (take n (drop (used * n) table)) s) (λ x. load_lines n from (used + 1) (take (used * n) before ++ x.0) x.1)) e
 
-  pub load_refused : (reason : Refusal) (line : ℕ) → r ≡ Refused reason line → Now ≡ wrong reason line
-  load_refused reason line e = load_said ∙ ap (λ (q : Step). after (step_got (from + used) q (take n (drop (used * n) table)) s) (λ x. load_lines n from (used + 1) (take (used * n) before ++ x.0) x.1)) e
+  pub load_refused : (refused : Refused) → r ≡ Err refused → Now ≡ wrong refused.why refused.place
+  load_refused refused e = load_said ∙ ap (λ (q : Step). after (step_got (from + used) q (take n (drop (used * n) table)) s) (λ x. load_lines n from (used + 1) (take (used * n) before ++ x.0) x.1)) e
 
 -- a turn of the swaps
 module _ (n : ℕ) (sizes : List ℕ) (used at : ℕ) (s before table : List ℕ) (r : Step) (h : at < length s)
@@ -211,16 +198,16 @@ module _ (n : ℕ) (sizes : List ℕ) (used at : ℕ) (s before table : List ℕ
     where
       go : (g : Got (List ℕ × Pieces)) → counts_line (4 + used) 3 (2 * n) used 64 (split 10 (drop at s)) ≡ g → after g (sides_of (4 + used) n sizes) ≡ fine x → used < 64
       go (fine y) f e = had_room (4 + used) 3 (2 * n) used 64 (split 10 (drop at s)) y f
-      go (wrong reason line) f e = clash _ _ _ (sym e)
+      go (wrong reason line) f e = cc
 
-  pub swap_on : (next : ℕ) → r ≡ On next → (used < 64) × (swap_lines n sizes (used + 1) (take ((used + 1) * (2 * n)) table) (split 10 (drop next s)) ≡ swap_lines n sizes used So (split 10 (drop at s)))
+  pub swap_on : (next : ℕ) → r ≡ Ok (Some next) → (used < 64) × (swap_lines n sizes (used + 1) (take ((used + 1) * (2 * n)) table) (split 10 (drop next s)) ≡ swap_lines n sizes used So (split 10 (drop at s)))
   swap_on next e = (
     swap_room _ (rec.is ∙ ap (λ (q : Step). step_got (4 + used) q Row s) e),
     ap (λ (c : List ℕ). swap_lines n sizes (used + 1) c (split 10 (drop next s))) (one_more used (2 * n) before table rec.kept)
         ∙ sym (swap_said (ap is_other e) ∙ ap (λ (q : Step). after (step_got (4 + used) q Row s) (λ x. swap_lines n sizes (used + 1) (So ++ x.0) x.1)) e),
   )
 
-  pub swap_other : r ≡ Other → swap_lines n sizes used So (split 10 (drop at s)) ≡ loads_after n used (take (used * (2 * n)) table) (split 10 (drop at s))
+  pub swap_other : r ≡ Ok None → swap_lines n sizes used So (split 10 (drop at s)) ≡ loads_after n used (take (used * (2 * n)) table) (split 10 (drop at s))
   swap_other e =
       other_word n sizes used So (drop at s) (begun_not (begun_in 3 (drop at s)) (sym (ap is_other e) ∙ rec.other))
       ∙ ap (λ (c : List ℕ). loads_after n used c (split 10 (drop at s))) (sym rec.kept)
@@ -229,8 +216,8 @@ module _ (n : ℕ) (sizes : List ℕ) (used at : ℕ) (s before table : List ℕ
       begun_not true e = e
       begun_not false e = refl
 
-  pub swap_refused : (reason : Refusal) (line : ℕ) → r ≡ Refused reason line → swap_lines n sizes used So (split 10 (drop at s)) ≡ wrong reason line
-  swap_refused reason line e = swap_said (ap is_other e) ∙ ap (λ (q : Step). after (step_got (4 + used) q Row s) (λ x. swap_lines n sizes (used + 1) (So ++ x.0) x.1)) e
+  pub swap_refused : (refused : Refused) → r ≡ Err refused → swap_lines n sizes used So (split 10 (drop at s)) ≡ wrong refused.why refused.place
+  swap_refused refused e = swap_said (ap is_other e) ∙ ap (λ (q : Step). after (step_got (4 + used) q Row s) (λ x. swap_lines n sizes (used + 1) (So ++ x.0) x.1)) e
 
 -- the buffer of the loads has room for 1,024 of n counts
 pub loads_room : (n len : ℕ) → n ≤ 12 → len ≡ 12288 → 1024 * n ≤ len

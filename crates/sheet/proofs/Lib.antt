@@ -1,4 +1,3 @@
 pub mod Blocks
-pub mod Clears
 pub mod Texts
 pub mod One

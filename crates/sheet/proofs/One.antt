@@ -1,8 +1,6 @@
 -- Any two results that the contract of `read_sheet` allows are the same. Assumes nothing.
-use mathlib.Core.Path.{◌≡◌, sym, ◌∙◌}
-use mathlib.Core.List.{List}
-use Prim.Native.Nat.{ℕ}
-use lib.IntN.{ℤ}
+use Rattle.std.specs.Prelude.{◌≡◌, List, ℕ, ℤ}
+use Rattle.std.proofs.Common.{sym, ◌∙◌}
 use Rattle.laws.specs.Outcome.{outcome_one}
 use Rattle.sheet.specs.Sheet.{sheet_of, Result, result_of, tests, Reads}
 

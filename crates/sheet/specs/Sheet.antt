@@ -1,16 +1,18 @@
 -- What a text says as a sheet: its lines in their sequence, and the first refusal with its line.
-use Rattle.std.specs.Prelude.{ℕ, ◌+◌, ◌-◌, ◌*◌, ◌≤◌, ◌≡◌, List, [], ◌∷◌, ◌++◌, cond, ℤ, pos, length, replicate}
+use Rattle.std.specs.Prelude.{ℕ, ◌+◌, ◌-◌, ◌*◌, ◌≤◌, ◌≡◌, List, [], ◌∷◌, ◌++◌, cond, ℤ, pos, length, replicate, Ok}
+use Rattle.std.specs.Prelude as std
 use Rattle.terms.specs.declared.Kit.{Kit}
 use Rattle.terms.specs.declared.Refusal.{Refusal}
 use Rattle.terms.specs.declared.Refusal.TheVariants.{Length, BadLine, LongText}
+use Rattle.terms.specs.declared.Refused.{Refused}
+use Rattle.terms.specs.Answers.{refuse}
 use Rattle.terms.specs.Limits.{most_kinds, most_swaps, most_loads, most_text}
 use Rattle.terms.specs.Outcome.{Test, must, Outcome}
 use Rattle.lines.specs.Fields.{word_of}
 use Rattle.shapes.specs.Split.{Got, fine, wrong, split, first, is_word}
 use Rattle.shapes.specs.Rows.{is_empty}
 use Rattle.records.specs.Lines.{Pieces, after, kit_line, size_line, cost_line, counts_line, swap_line}
-use Rattle.sheet.specs.declared.Read as read
-use Rattle.sheet.specs.declared.Read.TheVariants as answer
+use Rattle.sheet.specs.declared.Counts.{Counts}
 
 -- so many records, and their counts one after the other
 pub record Records : Type 0 where
@@ -58,7 +60,7 @@ sheet_of text =
 
 -- the answer, and what the four buffers then hold
 pub record Result : Type 0 where
-  pub answer : read.Read
+  pub answer : std.Result Counts Refused
   pub sizes : List ℕ
   pub costs : List ℤ
   pub swaps : List ℕ
@@ -74,7 +76,7 @@ load_room = most_loads * most_kinds
 abbrev pub cleared : Refusal → ℕ → Result
 cleared reason line =
     record {
-      answer = answer.Refused reason line;
+      answer = refuse reason line;
       sizes = replicate most_kinds 0;
       costs = replicate most_kinds (pos 0);
       swaps = replicate swap_room 0;
@@ -89,7 +91,7 @@ abbrev pub result_of : Got Sheet → Result
 result_of (wrong reason line) = cleared reason line
 result_of (fine s) =
     record {
-      answer = answer.Sheet (record { kinds = s.kit.kinds; bound = s.kit.bound; swaps = s.swaps.number; loads = s.loads.number });
+      answer = Ok (record { kinds = s.kit.kinds; bound = s.kit.bound; swaps = s.swaps.number; loads = s.loads.number });
       sizes = padded 0 most_kinds s.sizes;
       costs = padded (pos 0) most_kinds s.costs;
       swaps = padded 0 swap_room s.swaps.counts;
@@ -98,7 +100,7 @@ result_of (fine s) =
 
 -- a buffer of another length: refusal 3 with line 0, and all untouched
 abbrev pub untouched : List ℕ → List ℤ → List ℕ → List ℕ → Result
-untouched sizes costs swaps loads = record { answer = answer.Refused Length 0; sizes = sizes; costs = costs; swaps = swaps; loads = loads }
+untouched sizes costs swaps loads = record { answer = refuse Length 0; sizes = sizes; costs = costs; swaps = swaps; loads = loads }
 
 -- the tests before all lines: the lengths of the buffers, then that of the text
 abbrev pub tests : List ℕ → List ℕ → List ℤ → List ℕ → List ℕ → List (Test Result)

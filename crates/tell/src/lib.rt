@@ -1,24 +1,17 @@
-// Numbers and loads written by the programs that the gate runs.
+// Loads as the programs that the gate runs write them.
 #![tactic(auto)]
 
-// The standard output.
-pub const STDOUT: i32 = 1;
+use std::fmt;
 
-// A number of one or two digits.
-pub fn write_number(value: u8) {
-    if 9 < value {
-        io::write_all(STDOUT, &[48 + value / 10 % 10]);
-    }
-    io::write_all(STDOUT, &[48 + value % 10]);
-}
+// Counts, written with a blank before each.
+#[derive(Clone, Copy)]
+pub struct Counts<'a>(pub &'a [u16]);
 
-// Counts, a blank before each, and the end of the line.
-pub fn write_counts(load: &[u16]) {
-    let mut k = 0;
-    while k < load.len() {
-        io::write_all(STDOUT, b" ");
-        write_number((load[k] % 100) as u8);
-        k += 1;
+impl fmt::Display for Counts<'_> {
+    fn fmt<W: fmt::Write>(&self, f: &mut fmt::Formatter<W>) -> fmt::Result {
+        for count in self.0 {
+            write!(f, " {count}")?;
+        }
+        Ok(())
     }
-    io::write_all(STDOUT, b"\n");
 }

@@ -1,4 +1,4 @@
--- The words of document 01 as definitions. Nothing is proved here.
+-- The house's words as definitions. Nothing is proved here.
 pub mod Load
 pub mod Order
 pub mod Swaps
@@ -7,5 +7,6 @@ pub mod Settling
 pub mod Flat
 pub mod Limits
 pub mod Refusals
+pub mod Answers
 pub mod Outcome
 pub mod Decides

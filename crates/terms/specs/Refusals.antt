@@ -1,4 +1,4 @@
--- The refusal numbers of document 01.
+-- The refusal numbers.
 use Rattle.std.specs.Prelude.{ℕ}
 use Rattle.terms.specs.declared.Refusal.{Refusal}
 use Rattle.terms.specs.declared.Refusal.TheVariants.{Kinds, Bound, Length, Size, Cost, SameSides, UnequalGrades, NoRoom, BadRow, OverBound, BadLine, BigCount, LongText}

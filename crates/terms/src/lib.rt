@@ -2,6 +2,7 @@
 #![tactic(auto)]
 
 ghost use Rattle.std.specs.Prelude.{◌≡◌};
+ghost use Rattle.terms.specs.Refusals.{number_of};
 
 // A kit: how many kinds of part it has, and the bound on a load's grade.
 #[derive(Clone, Copy)]
@@ -36,8 +37,8 @@ impl Kit {
     }
 }
 
-// Why a call refuses, in the sequence of document 01's table; specs/Refusals.antt has the numbers.
-#[derive(Clone, Copy)]
+// Why a call refuses, in the sequence in which the tests go; specs/Refusals.antt has the numbers.
+#[derive(Clone, Copy, PartialEq, Eq, Debug)]
 pub enum Refusal {
     Kinds,
     Bound,
@@ -52,4 +53,42 @@ pub enum Refusal {
     BadLine,
     BigCount,
     LongText,
+}
+
+// A refusal: why, and at which row, swap or line; the place is 0 where the reason has none.
+#[derive(Clone, Copy, PartialEq, Eq, Debug)]
+pub struct Refused {
+    pub why: Refusal,
+    pub place: usize,
+}
+
+impl Refusal {
+    pub fn at(self, place: usize) -> Refused
+        ensures { result ≡ record { why = self; place = place } }
+    {
+        Refused { why: self, place }
+    }
+}
+
+// The refusal numbers, for whoever writes one.
+impl From<Refusal> for u32 {
+    ghost from_gives = { λ why number. number ≡ number_of why };
+
+    fn from(why: Refusal) -> u32 {
+        match why {
+            Refusal::Kinds => 1,
+            Refusal::Bound => 2,
+            Refusal::Length => 3,
+            Refusal::Size => 4,
+            Refusal::Cost => 5,
+            Refusal::SameSides => 6,
+            Refusal::UnequalGrades => 7,
+            Refusal::NoRoom => 8,
+            Refusal::BadRow => 9,
+            Refusal::OverBound => 10,
+            Refusal::BadLine => 11,
+            Refusal::BigCount => 12,
+            Refusal::LongText => 13,
+        }
+    }
 }

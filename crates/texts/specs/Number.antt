@@ -1,8 +1,8 @@
 -- Numbers in text: decimal, with no leading zero.
-use Rattle.std.specs.Prelude.{ℕ, suc, ◌+◌, ◌-◌, ◌*◌, min, List, [], ◌∷◌, Bool, true, false, cond, not, ◌&&◌, ◌||◌, leb, eqb, length, drop}
+use Rattle.std.specs.Prelude.{ℕ, suc, ◌+◌, ◌-◌, ◌*◌, min, List, [], ◌∷◌, Bool, true, false, cond, not, ◌&&◌, ◌||◌, leb, eqb, length, drop, Some, None}
+use Rattle.std.specs.Prelude as std
 use Rattle.std.proofs.Math.Option.{Option, none, some}
 use Rattle.texts.specs.declared.Num.{Num}
-use Rattle.texts.specs.declared.Num.TheVariants.{Value, Bad}
 
 abbrev pub is_digit : ℕ → Bool
 is_digit b = leb 48 b && leb b 57
@@ -42,26 +42,35 @@ unfoldable pub closed : List ℕ → Bool
 closed [] = false
 closed (b ∷ l) = cond (ends_field b) true (closed l)
 
+-- the bytes of the first field of a text, if a tab or a line feed ends it
+abbrev pub ended : List ℕ → std.Option (List ℕ)
+ended l = cond (closed l) (Some (piece l)) None
+
 -- the program holds a number at cap, which is above every limit
 abbrev pub cap : ℕ
 cap = 10000000
 
-abbrev pub held : ℕ → Option ℕ → Num
-held next none = Bad
-held next (some v) = Value (min cap v) next
+abbrev pub held_value : Option ℕ → std.Option ℕ
+held_value none = None
+held_value (some v) = Some (min cap v)
+
+-- a number whose field ends at a place
+abbrev pub ending : ℕ → ℕ → std.Option Num
+ending next v = Some (record { value = v; next = next })
+
+abbrev pub held : ℕ → Option ℕ → std.Option Num
+held next none = None
+held next (some v) = ending next (min cap v)
 
 -- the number that the field at a place is, and the place of the tab or line feed that ends it
-abbrev pub number_in : List ℕ → ℕ → Num
-number_in l at = cond (closed l) (held (at + length (piece l)) (number_of (piece l))) Bad
+abbrev pub number_in : List ℕ → ℕ → std.Option Num
+number_in l at = cond (closed l) (held (at + length (piece l)) (number_of (piece l))) None
 
-abbrev pub number_at : List ℕ → ℕ → Num
+abbrev pub number_at : List ℕ → ℕ → std.Option Num
 number_at s at = number_in (drop at s) at
 
 -- ## The same as the loop goes
 
+-- one digit more after those whose value is v
 abbrev pub more : ℕ → ℕ → ℕ
 more v b = min cap (v * 10 + (b - 48))
-
-unfoldable pub run_from : ℕ → ℕ → List ℕ → Num
-run_from v at [] = Bad
-run_from v at (b ∷ l) = cond (ends_field b) (Value v at) (cond (is_digit b) (run_from (more v b) (suc at) l) Bad)

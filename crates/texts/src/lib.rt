@@ -1,39 +1,34 @@
 // Numbers in text: decimal, of any length, with no leading zero. A number above every limit is held at CAP.
 #![tactic(auto)]
 
-ghost use Rattle.std.specs.Prelude.{◌≡◌, true, ◌≤◌, drop};
-ghost use Rattle.texts.specs.Number.{cap, is_digit, ends_field, more, run_from, number_at};
+ghost use Rattle.std.specs.Prelude.{◌≡◌, true, ◌+◌, ◌≤◌, ◌<◌, length, drop, IfSome, option_copied};
+ghost use Rattle.std.specs.List.{position_from};
+ghost use Rattle.texts.specs.Number.{cap, is_digit, ends_field, plain, number_of, ended, held_value, more, number_at};
 
 pub const CAP: u32 = 10_000_000;
 
-pub const TAB: u8 = 9;
+pub const TAB: u8 = b'\t';
 
-pub const FEED: u8 = 10;
+pub const FEED: u8 = b'\n';
 
 // A number of a text: its value, and the place of the tab or line feed that ends its field.
-#[derive(Drop)]
-pub enum Num {
-    Value(u32, usize),
-    Bad,
+#[derive(Clone, Copy, PartialEq, Eq, Debug)]
+pub struct Num {
+    pub value: u32,
+    pub next: usize,
 }
 
 pub fn is_digit(b: u8) -> bool
     ensures { result ≡ is_digit b }
 {
-    if b < 48 {
-        return false;
-    }
-    b <= 57
+    b.is_ascii_digit()
 }
 
 // A field ends where a tab or a line feed stands.
 pub fn ends_field(b: u8) -> bool
     ensures { result ≡ ends_field b }
 {
-    if b == TAB {
-        return true;
-    }
-    b == FEED
+    b == TAB || b == FEED
 }
 
 // One digit more, held at CAP.
@@ -42,44 +37,60 @@ fn more_by(value: u32, b: u8) -> u32
     requires digit { is_digit b ≡ true }
     ensures { result ≡ more value b }
 {
-    let next = value * 10 + (b as u32 - 48);
-    if next <= CAP { next } else { CAP }
+    (value * 10 + u32::from(b - b'0')).min(CAP)
 }
 
-// The digits from a place to the end of the field.
-fn run_at(s: &[u8], at: usize) -> Num
-    ensures { result ≡ run_from 0 at (drop at s.now) }
+// How many bytes stand before the first tab or line feed, if there is one.
+fn end_of(rest: &[u8]) -> Option<usize>
+    ensures place { result ≡ position_from ends_field 0 rest.now }
+    ensures inside { IfSome result (λ n. n < length rest.now) }
 {
-    let mut value: u32 = 0;
-    let mut next = at;
-    while next < s.len() {
-        let b = s[next];
-        if ends_field(b) {
-            return Num::Value(value, next);
-        }
+    rest.iter().position(|b| ends_field(*b))
+}
+
+// The bytes of the field at a place, if a tab or a line feed ends it.
+#[tactic(auto, using(crate::proofs::Runs::past_end, crate::proofs::Runs::no_end, crate::proofs::Runs::an_end))]
+pub fn field(s: &[u8], at: usize) -> Option<&[u8]>
+    ensures bytes { option_copied result ≡ ended (drop at s.now) }
+    ensures inside { IfSome result (λ f. at + length f.now < length s.now) }
+{
+    let rest = s.get(at..)?;
+    let long = end_of(rest)?;
+    Some(&rest[..long])
+}
+
+// Something stands there, and no 0 in front of something.
+fn is_plain(field: &[u8]) -> bool
+    ensures { result ≡ plain field.now }
+{
+    !matches!(field, [] | [b'0', _, ..])
+}
+
+// The value of a field, if it is a number.
+#[tactic(auto, using(crate::proofs::Runs::worth_bad, crate::proofs::Runs::worth_on, crate::proofs::Runs::worth_end, crate::proofs::Runs::plain_worth))]
+fn value_of(field: &[u8]) -> Option<u32>
+    ensures { result ≡ held_value (number_of field.now) }
+{
+    if !is_plain(field) {
+        return None;
+    }
+    let mut value = 0;
+    for &b in field {
         if !is_digit(b) {
-            return Num::Bad;
+            return None;
         }
         value = more_by(value, b);
-        next += 1;
     }
-    Num::Bad
+    Some(value)
 }
 
 // The number that is the field at a place.
-pub fn number(s: &[u8], at: usize) -> Num
+pub fn number(s: &[u8], at: usize) -> Option<Num>
     ensures { result ≡ number_at s.now at }
 {
-    let Num::Value(value, next) = run_at(s, at) else {
-        return Num::Bad;
-    };
-    if next == at {
-        return Num::Bad;
-    }
-    if s[at] == 48 {
-        if next != at + 1 {
-            return Num::Bad;
-        }
-    }
-    Num::Value(value, next)
+    let field = field(s, at)?;
+    Some(Num {
+        value: value_of(field)?,
+        next: at + field.len(),
+    })
 }

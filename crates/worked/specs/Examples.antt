@@ -1,4 +1,4 @@
--- The loads that document 01 checks by hand: P1 to P12 as one table, and what a line of it says in the words of `terms`.
+-- Loads checked by hand: P1 to P12 as one table, and what a line of it says in the words of `terms`.
 use Rattle.std.specs.Prelude.{ℕ, ◌*◌, ◌≤◌, ◌≡◌, List, [], ◌∷◌, length, ℤ, pos, neg_ℤ}
 use Rattle.terms.specs.Load.{grade, zeros}
 use Rattle.terms.specs.Swaps.{Swap, Reaches}

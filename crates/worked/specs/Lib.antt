@@ -1,4 +1,4 @@
--- The loads that document 01 works by hand.
+-- Loads worked by hand.
 pub mod Examples
 pub mod Shown
 pub mod Worked

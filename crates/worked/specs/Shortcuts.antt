@@ -1,4 +1,4 @@
--- The short cuts of document 01 that give wrong lists, as definitions. Nothing rests on them: each edit of must-fail/ puts
+-- Short cuts that give wrong lists, as definitions. Nothing rests on them: each edit of must-fail/ puts
 -- one in the place of the right definition, and is refused.
 use Rattle.std.specs.Prelude.{ℕ, suc, ◌-◌, ◌%◌, ◌^◌, ◌≡◌, ◌⊎◌, cond, List, [], ◌∷◌, ◌++◌, map, ltb, ℤ, pos, negsuc, neg_ℤ, nat_abs, ◌<ℤ◌}
 use Rattle.terms.specs.Load.{plus, less}

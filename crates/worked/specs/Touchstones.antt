@@ -1,4 +1,4 @@
--- Touchstones: small facts over the definitions that each short cut of document 01 breaks. The definitions come by way of
+-- Touchstones: small facts over the definitions that each short cut breaks. The definitions come by way of
 -- `Words`; with a short cut in the place of one, a fact here no longer holds, and the check says so.
 use Rattle.std.specs.Prelude.{ℕ, ◌≡◌, refl, List, [], ◌∷◌, pos}
 use Rattle.std.proofs.Common.{inl, inr, arith}

@@ -1,4 +1,4 @@
--- P1 to P12 of document 01, in one table with one proof.
+-- The worked loads P1 to P12, in one table with one proof.
 use Rattle.std.specs.Prelude.{refl}
 use Rattle.std.proofs.Math.Decide.{ℕ_discrete, dec_le, dec_lt}
 use Rattle.terms.specs.Limits.{All}

@@ -1,4 +1,4 @@
--- What the short cuts do: each does just what document 01 says it must not.
+-- What the short cuts do: each does just what settling must not.
 -- Assumes nothing.
 use Rattle.std.specs.Prelude.{refl, [], ◌∷◌, pos}
 use Rattle.std.proofs.Common.{inl, inr, arith}

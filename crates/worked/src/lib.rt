@@ -1,2 +1,2 @@
-// The loads that document 01 works by hand; all of it is in specs/.
+// Loads worked by hand; all of it is in specs/.
 #![tactic(auto)]

@@ -1,9 +1,6 @@
 -- A sheet that is written within the limits reads back as what it was written from. Assumes nothing.
-use Rattle.std.specs.Prelude.{ℕ, ◌+◌, ◌≤◌, ◌<◌, ◌≡◌, length}
-use Rattle.std.proofs.Math.Path.{refl, ap}
-use Rattle.std.proofs.Common.{sym, ap₂, ◌∙◌, arith}
-use mathlib.Core.List.{List, [], ◌∷◌, ◌++◌, append-nil, append_assoc}
-use Rattle.std.proofs.Math.Bool.{cond}
+use Rattle.std.specs.Prelude.{ℕ, ◌+◌, ◌≤◌, ◌<◌, ◌≡◌, length, refl, List, [], ◌∷◌, ◌++◌, cond}
+use Rattle.std.proofs.Common.{ap, sym, ap₂, ◌∙◌, arith, append-nil, append_assoc}
 use Rattle.std.proofs.Math.Option.{Option}
 use Rattle.terms.specs.Limits.{All, most_swaps, most_loads}
 use Rattle.terms.specs.Swaps.{Swap}

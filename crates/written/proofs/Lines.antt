@@ -1,11 +1,7 @@
 -- Each line as it is written reads back as its values, with the text after it. Assumes nothing.
-use Prim.Native.Nat.{ℕ, ◌*◌, ◌≤◌, ◌<◌}
-use Rattle.std.specs.Prelude.{◌≡◌, false, ℤ, length}
-use Rattle.std.proofs.Math.Path.{refl, sym, ap}
-use Rattle.std.proofs.Common.{◌∙◌, arith, length-append, take_at, drop_at, le-leb, lt-ltb, eq-eqb}
-use mathlib.Core.List.{List, [], ◌∷◌, ◌++◌, append_assoc}
+use Rattle.std.specs.Prelude.{ℕ, ◌*◌, ◌≤◌, ◌<◌, ◌≡◌, false, ℤ, length, refl, List, [], ◌∷◌, ◌++◌, eqb}
+use Rattle.std.proofs.Common.{sym, ap, ◌∙◌, arith, length-append, take_at, drop_at, le-leb, lt-ltb, eq-eqb, append_assoc}
 use Rattle.std.proofs.Math.Option.{Option, some}
-use Rattle.std.proofs.Math.Dec.{eqb}
 use Rattle.terms.specs.Load.{grade}
 use Rattle.terms.specs.Limits.{All, KindsFine, BoundFine, SizeFine, CostFine, most_kinds, most_bound, most_size, most_swaps, most_count}
 use Rattle.terms.specs.Swaps.{Swap}

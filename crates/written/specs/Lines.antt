@@ -1,14 +1,10 @@
 -- Fields, words, and tests that pass; that each line as it is written reads back is proved in `proofs/Lines`. Assumes nothing.
-use Prim.Native.Nat.{ℕ, zero, suc, ◌≤◌}
-use Rattle.std.specs.Prelude.{◌≡◌, Bool, true, false, cond, length}
-use Rattle.std.proofs.Math.Path.{refl}
+use Rattle.std.specs.Prelude.{ℕ, zero, suc, ◌≤◌, ◌≡◌, Bool, true, false, cond, length, refl, List, [], ◌∷◌, ◌++◌, map, eqb}
 use Rattle.std.proofs.Common.{arith, le-leb, eq-eqb, eqb-true}
-use mathlib.Core.List.{List, [], ◌∷◌, ◌++◌, map}
 use Rattle.std.proofs.Math.Option.{Option, some}
-use Rattle.std.proofs.Math.Dec.{eqb}
 use Rattle.terms.specs.Limits.{All}
 use Rattle.texts.specs.Number.{number_of}
-use Rattle.lines.specs.Fields.{kit_word, size_word, cost_word, swap_word, load_word, word_of, same}
+use Rattle.lines.specs.Fields.{kit_word, size_word, cost_word, swap_word, load_word, word_of, which_word, same}
 use Rattle.shapes.specs.Split.{split, first, numbers, shaped}
 use Rattle.records.specs.Lines.{all, within}
 use Rattle.print.specs.Lines.{digits, each}
@@ -55,23 +51,23 @@ module _ {A : Type 0} {num : List ℕ → Option A} {spell : A → List ℕ} (f 
 -- ## The five words
 
 pub kit_is_word : Word 0 kit_word
-unfolding word_of same
+unfolding word_of which_word same
 kit_is_word = record { is = refl; no_tab = (refl, (refl, (refl, tt))); no_feed = (refl, (refl, (refl, tt))) }
 
 pub size_is_word : Word 1 size_word
-unfolding word_of same
+unfolding word_of which_word same
 size_is_word = record { is = refl; no_tab = (refl, (refl, (refl, (refl, tt)))); no_feed = (refl, (refl, (refl, (refl, tt)))) }
 
 pub cost_is_word : Word 2 cost_word
-unfolding word_of same
+unfolding word_of which_word same
 cost_is_word = record { is = refl; no_tab = (refl, (refl, (refl, (refl, tt)))); no_feed = (refl, (refl, (refl, (refl, tt)))) }
 
 pub swap_is_word : Word 3 swap_word
-unfolding word_of same
+unfolding word_of which_word same
 swap_is_word = record { is = refl; no_tab = (refl, (refl, (refl, (refl, tt)))); no_feed = (refl, (refl, (refl, (refl, tt)))) }
 
 pub load_is_word : Word 4 load_word
-unfolding word_of same
+unfolding word_of which_word same
 load_is_word = record { is = refl; no_tab = (refl, (refl, (refl, (refl, tt)))); no_feed = (refl, (refl, (refl, (refl, tt)))) }
 
 -- ## The tests pass

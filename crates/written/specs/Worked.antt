@@ -17,7 +17,7 @@ sheet_a =
       loads = (0 ∷ 2 ∷ 0 ∷ 1 ∷ []) ∷ (0 ∷ 0 ∷ 0 ∷ 4 ∷ []) ∷ [];
     }
 
--- its text, a line of document 01 to a line
+-- its text, a line of the sheet to a line
 abbrev pub bytes_a : List ℕ
 bytes_a =
     107 ∷ 105 ∷ 116 ∷ 9 ∷ 52 ∷ 9 ∷ 49 ∷ 50 ∷ 10

@@ -1,54 +1,36 @@
-use Prim.Native.Nat.{◌≤◌}
-use mathlib.Core.Path.{refl, sym, ◌∙◌}
-use native.Mathlib.Omega.{arith}
-use Rattle.grades.proofs.Graded.{few_pairs}
-use Rattle.grades.proofs.Whole.{grading_start, grading_full, grading_next, grading_end}
+use Rattle.std.proofs.Common.{◌+◌, map, refl, sym, ◌∙◌, arith, rules}
+use Rattle.std.proofs.lemmas.Iterator.{YieldsList-from_slice, YieldsList-from_map}
+use Rattle.std.proofs.lemmas.Iterator.Consumers.{YieldsList-at}
+use Rattle.std.proofs.lemmas.List.{length-map}
+use Rattle.rack.specs.Rows.{as_row}
+use Rattle.pairs.specs.declared.Pair.{Pair}
+use Rattle.pairs.specs.Pairs.{NextAbove}
+use Rattle.grades.specs.Stamped.{stamps_of}
+use Rattle.grades.specs.declared.Stamped.{Stamped}
+use Rattle.grades.proofs.Whole.{at_error, at_value, next_of, grading_start, grading_full, grading_next, grading_end}
+use Rattle.grades.proofs.Joins.{rows_in, rows_over}
 use Rattle.grades.proofs.all_grades.Goals as goal
 
-pub overflow_add-bound : goal.overflow_add-bound
-overflow_add-bound c = omega (arith, c.requires.0.setting.small)
-
-pub next_above-g-requires : goal.next_above-g-requires
-next_above-g-requires c = (c.requires.0.stamps_long, omega arith)
-
 pub loop-g-init : goal.loop-g-init
-loop-g-init c = grading_start _ _ refl refl c.next_above-g.ensures
+loop-g-init c =
+    let stamps : NextAbove (stamps_of c.args.swaps.now) 0 (c.args.bound + 1) c.next_above-g.result = next_of c.next_above-g.ensures (YieldsList-from_map _ (λ (a : Stamped). a.stamp) (YieldsList-at c.map.ensures.source (YieldsList-from_slice c.args.swaps.now c.iter.ensures.rest)) c.map.ensures.closure (λ x r q k. search rules)) in
+    rw (c.new-list.ensures, c.clear.ensures) (grading_start stamps)
 
-pub slice_bounds-one_grade-end : goal.slice_bounds-one_grade-end
-slice_bounds-one_grade-end c = sym c.loop-g.invariant.due_long
-
-pub slice_bounds-one_grade-end-in-loop-g : goal.slice_bounds-one_grade-end-in-loop-g
-slice_bounds-one_grade-end-in-loop-g c = sym c.loop-g.invariant.mates_long
-
-pub one_grade-grown-requires : goal.one_grade-grown-requires
-one_grade-grown-requires c =
+pub one_grade-requires : goal.one_grade-requires
+one_grade-requires c =
     let s = c.loop-g.invariant in
-    let p = c.requires in
-    record { at_grade = ((p.0, s.at p.0), s.list); has_room = (s.some, c.loop-g-test.true, s.roomy, p.1, omega (arith, p.2, s.long), s.due_long, s.mates_long) }
+    let long = length-map c.loop-g.table.items as_row in
+    record { at_grade = ((c.requires.0, s.at c.requires.0), s.entered); has_room = (s.some, omega arith, omega (arith, s.roomy, long), c.requires.1) }
 
-pub returns-then-room-rows : goal.returns-then-room-rows
-returns-then-room-rows c = grading_full c.requires.1 c.loop-g.invariant c.one_grade-grown.ensures c.if-room-rows.true
-
-pub slice_bounds-next_above-end : goal.slice_bounds-next_above-end
-slice_bounds-next_above-end c = sym (c.one_grade-grown.auto.due ∙ c.loop-g.invariant.due_long)
-
-pub overflow_add-bound-in-loop-g : goal.overflow_add-bound-in-loop-g
-overflow_add-bound-in-loop-g c = omega (arith, c.requires.0.setting.small)
-
-pub next_above-limit-requires : goal.next_above-limit-requires
-next_above-limit-requires c =
-    let d = c.one_grade-grown in
-    let few : d.result.rows ≤ 256 = omega (arith, c.if-room-rows.false, c.requires.1) in
-    (omega (arith, (d.ensures.listed c.if-room-rows.false).few, few_pairs d.result.rows few, d.auto.due, c.loop-g.invariant.due_long), omega (arith, c.loop-g-test.true))
-
-pub next_above-g-requires-in-loop-g : goal.next_above-g-requires-in-loop-g
-next_above-g-requires-in-loop-g c = (c.requires.0.stamps_long, c.next_above-limit.ensures.above)
-
-pub loop-g-smaller : goal.loop-g-smaller
-loop-g-smaller c = omega (arith, c.next_above-g-in-loop-g.ensures.above, c.loop-g-test.true)
+pub returns-then-is_err : goal.returns-then-is_err
+returns-then-is_err c = grading_full c.loop-g.invariant c.one_grade.ensures.done (rows_over c.one_grade.new.table.items refl (at_error _ _ c.one_grade.result c.one_grade.ensures.room (sym c.is_err.ensures.value ∙ c.if-is_err.true)))
 
 pub loop-g-preserved : goal.loop-g-preserved
-loop-g-preserved c = grading_next c.requires.1 c.loop-g.invariant c.one_grade-grown.ensures c.if-room-rows.false (c.one_grade-grown.auto.due ∙ c.loop-g.invariant.due_long) (c.one_grade-grown.auto.mates ∙ c.loop-g.invariant.mates_long) c.next_above-limit.ensures c.next_above-g-in-loop-g.ensures
+loop-g-preserved c =
+    let list = c.one_grade.new.list.items in
+    let dues : NextAbove (map (λ (a : Pair). a.due) list) c.loop-g.g (c.args.bound + 1) c.next_above-limit.result = next_of c.next_above-limit.ensures (YieldsList-from_map _ (λ (a : Pair). a.due) (YieldsList-at c.map-in-loop-g.ensures.source (YieldsList-from_slice list (search rules))) c.map-in-loop-g.ensures.closure (λ x r q k. search rules)) in
+    let stamps : NextAbove (stamps_of c.args.swaps.now) c.loop-g.g c.next_above-limit.result c.next_above-g-in-loop-g.result = next_of c.next_above-g-in-loop-g.ensures (YieldsList-from_map _ (λ (a : Stamped). a.stamp) (YieldsList-at c.map-in-loop-g-2.ensures.source (YieldsList-from_slice c.args.swaps.now c.iter-in-loop-g-2.ensures.rest)) c.map-in-loop-g-2.ensures.closure (λ x r q k. search rules)) in
+    grading_next c.loop-g.invariant c.one_grade.ensures.done (rows_in c.one_grade.new.table.items refl (at_value _ _ c.one_grade.result c.one_grade.ensures.room (sym c.is_err.ensures.value ∙ c.if-is_err.false))) dues stamps
 
 pub returns : goal.returns
-returns c = grading_end c.requires.1 c.loop-g.invariant c.requires.0 c.loop-g-test.false
+returns c = grading_end c.loop-g.invariant c.requires.0 (omega arith)

@@ -1,16 +1,27 @@
-use mathlib.Core.Path.{◌∙◌}
-use borrow.Author.Rules.{rules}
-use Rattle.grades.proofs.Joins.{loaded_as, joined_as, made_as, made_fits}
+use Rattle.std.proofs.Common.{[], ◌∙◌}
+use Rattle.rack.specs.declared.Row.{Row}
+use Rattle.grades.proofs.Joins.{made_as, made_fits}
 use Rattle.grades.proofs.join_pair.Goals as goal
 
-pub make-requires : goal.make-requires
-make-requires c = (c.left_of.ensures.1, c.right_of.ensures.1, c.left_of-2.ensures.1, search rules, made_fits c.args.table.now c.args.p c.args.j c.left_of.ensures.0 c.right_of.ensures.0 c.left_of-2.ensures.0 c.requires.3)
+abbrev no_row : Row
+no_row = record { head = []; tail = [] }
 
-pub make-requires-2 : goal.make-requires-2
-make-requires-2 c = (c.left_of-3.ensures.1, c.right_of-2.ensures.1, c.left_of-4.ensures.1, search rules, made_fits c.args.table.now c.args.j c.args.p c.left_of-3.ensures.0 c.right_of-2.ensures.0 c.left_of-4.ensures.0 c.requires.4)
+pub make-x-requires : goal.make-x-requires
+make-x-requires c = rw (c.deref.ensures.0, c.deref-2.ensures.0) (made_fits c.args.table.now.items c.args.p c.args.j no_row c.requires.0 c.requires.1 c.requires.3)
+
+pub make-y-requires : goal.make-y-requires
+make-y-requires c = rw (c.deref.ensures.0, c.deref-2.ensures.0) (made_fits c.args.table.now.items c.args.j c.args.p no_row c.requires.1 c.requires.0 c.requires.4)
 
 pub joined-requires : goal.joined-requires
-joined-requires c = (loaded_as (c.make.ensures ∙ made_as c.args.table.now c.args.p c.args.j c.left_of.ensures.0 c.right_of.ensures.0 c.left_of-2.ensures.0) c.requires.3, loaded_as (c.make-2.ensures ∙ made_as c.args.table.now c.args.j c.args.p c.left_of-3.ensures.0 c.right_of-2.ensures.0 c.left_of-4.ensures.0) c.requires.4, c.requires.2)
+joined-requires c =
+    let T = c.args.table.now.items in
+    let x = rw (c.deref.ensures.0, c.deref-2.ensures.0) at c.make-x.ensures in
+    let y = rw (c.deref.ensures.0, c.deref-2.ensures.0) at c.make-y.ensures in
+    rw (x ∙ made_as T c.args.p c.args.j no_row c.requires.0 c.requires.1, y ∙ made_as T c.args.j c.args.p no_row c.requires.1 c.requires.0) (c.requires.3, c.requires.4, c.requires.2)
 
 pub returns : goal.returns
-returns c = joined_as (c.make.ensures ∙ made_as c.args.table.now c.args.p c.args.j c.left_of.ensures.0 c.right_of.ensures.0 c.left_of-2.ensures.0) (c.make-2.ensures ∙ made_as c.args.table.now c.args.j c.args.p c.left_of-3.ensures.0 c.right_of-2.ensures.0 c.left_of-4.ensures.0) c.joined.ensures
+returns c =
+    let T = c.args.table.now.items in
+    let x = rw (c.deref.ensures.0, c.deref-2.ensures.0) at c.make-x.ensures in
+    let y = rw (c.deref.ensures.0, c.deref-2.ensures.0) at c.make-y.ensures in
+    rw (x ∙ made_as T c.args.p c.args.j no_row c.requires.0 c.requires.1, y ∙ made_as T c.args.j c.args.p no_row c.requires.1 c.requires.0) at c.joined.ensures

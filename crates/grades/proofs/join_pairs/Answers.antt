@@ -1,30 +1,35 @@
-use mathlib.Core.Path.{refl}
-use native.Mathlib.Omega.{arith}
-use Rattle.grades.proofs.Listed.{pairs_start, pairs_turn, pairs_skip, pairs_full, pairs_end, pairs_as, pairs_asked}
+use Rattle.std.proofs.Common.{get_or, take_all, arith}
+use Rattle.std.proofs.lemmas.List.{take_more, length-map}
+use Rattle.rack.specs.Rows.{as_row}
+use Rattle.grades.proofs.Listed.{no_pair, pair_in, pairs_start, pairs_turn, pairs_skip, pairs_full, pairs_end, pairs_asked}
+use Rattle.grades.proofs.Joins.{rows_in, rows_over}
 use Rattle.grades.proofs.join_pairs.Goals as goal
-use Rattle.grades.proofs.join_pairs.Goals.{then-due-k+else-room-now, else-due-k}
+use Rattle.grades.proofs.join_pairs.Goals.{then-pair-g+else-room-len, else-pair-g}
 
-pub loop-k-init : goal.loop-k-init
-loop-k-init c = pairs_start c.requires.has_room.0
+pub loop-pair-init : goal.loop-pair-init
+loop-pair-init c = pairs_start (omega (arith, c.requires.has_room.0, length-map c.args.table.now.items as_row))
 
-pub overflow_cast-due : goal.overflow_cast-due
-overflow_cast-due c = omega (arith, c.type_inv.due c.loop-k.k)
+pub join_pair-requires : goal.join_pair-requires
+join_pair-requires c =
+    let k = c.loop-pair.pair-index in
+    let asked = pairs_asked c.loop-pair.invariant (get_or c.args.list.now k no_pair) (pair_in c.args.list.now k c.loop-pair-test.true) c.requires.listed.2 c.requires.has_room.1 c.if-pair-g.true in
+    rw (c.from.ensures, c.from-then-pair-g.ensures, ← (length-map c.loop-pair.table.items as_row)) asked
 
-pub overflow_cast-mate : goal.overflow_cast-mate
-overflow_cast-mate c = omega (arith, c.type_inv.mates c.loop-k.k)
+pub returns-then-room-len-clause-done : goal.returns-then-room-len-clause-done
+returns-then-room-len-clause-done c =
+    let k = c.loop-pair.pair-index in
+    pairs_full c.loop-pair.invariant (get_or c.args.list.now k no_pair) (pair_in c.args.list.now k c.loop-pair-test.true) c.if-pair-g.true (rw (c.from.ensures, c.from-then-pair-g.ensures) at c.join_pair.ensures) (rows_over c.join_pair.new.table.items c.len.ensures.value c.if-room-len.true)
 
-pub join_pair-now-requires : goal.join_pair-now-requires
-join_pair-now-requires c = pairs_asked c.loop-k.invariant c.loop-k-test.true c.requires.listed.3 c.requires.has_room.2 c.if-due-k.true
-
-pub returns-then-room-now : goal.returns-then-room-now
-returns-then-room-now c = pairs_full c.loop-k.invariant c.loop-k-test.true c.if-due-k.true refl refl c.join_pair-now.ensures c.if-room-now.true
-
-pub loop-k-preserved : goal.loop-k-preserved
-loop-k-preserved c =
-    elim c.if-due-k.branch [
-      | then-due-k+else-room-now w ↦ pairs_as w.table-is w.now-is (pairs_turn c.loop-k.invariant c.loop-k-test.true w.if-due-k.true refl refl w.join_pair-now.ensures w.if-room-now.false)
-      | else-due-k w ↦ pairs_as w.table-is w.now-is (pairs_skip c.loop-k.invariant c.loop-k-test.true w.if-due-k.false)
+pub loop-pair-preserved : goal.loop-pair-preserved
+loop-pair-preserved c =
+    let k = c.loop-pair.pair-index in
+    let a = get_or c.args.list.now k no_pair in
+    let m = pair_in c.args.list.now k c.loop-pair-test.true in
+    let more = take_more c.args.list.now k no_pair c.loop-pair-test.true in
+    elim c.if-pair-g.branch [
+      | then-pair-g+else-room-len w ↦ rw (w.table-is, more) (pairs_turn c.loop-pair.invariant a m w.if-pair-g.true (rw (w.from.ensures, w.from-then-pair-g.ensures) at w.join_pair.ensures) (rows_in w.join_pair.new.table.items w.len.ensures.value w.if-room-len.false))
+      | else-pair-g w ↦ rw (w.table-is, more) (pairs_skip c.loop-pair.invariant a m w.if-pair-g.false)
     ]
 
-pub returns : goal.returns
-returns c = pairs_end c.loop-k.invariant c.loop-k-test.false
+pub returns-clause-done : goal.returns-clause-done
+returns-clause-done c = pairs_end (rw (take_all c.loop-pair.pair-index c.args.list.now c.loop-pair-test.false) at c.loop-pair.invariant)

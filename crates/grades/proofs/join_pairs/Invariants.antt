@@ -1,9 +1,8 @@
-use Prim.Native.Nat.{◌-◌}
+-- The pairs passed are joined.
+use Rattle.std.proofs.Common.{take}
+use Rattle.rack.specs.Rows.{as_rows}
 use Rattle.grades.proofs.Listed.{PairsGoing}
 use Rattle.grades.proofs.join_pairs.Given as goal
 
-abbrev pub invariant-loop-k : goal.invariant-loop-k
-invariant-loop-k l = PairsGoing l.weights l.due l.mates l.pairs l.g l.initial.table l.rows l.room l.table l.now l.k
-
-abbrev pub decreases-loop-k : goal.decreases-loop-k
-decreases-loop-k l = l.pairs - l.k
+abbrev pub invariant-loop-pair : goal.invariant-loop-pair
+invariant-loop-pair l = PairsGoing l.weights l.list l.g (as_rows l.initial.table.items) l.room (as_rows l.table.items) (take l.pair-index l.list)

@@ -1,9 +1,7 @@
-use Prim.Native.Nat.{◌-◌}
+-- The tails of the rows from base up to before r are settled.
+use Rattle.rack.specs.Rows.{as_rows}
 use Rattle.grades.proofs.Ends.{TailsGoing}
 use Rattle.grades.proofs.settle_tails.Given as goal
 
 abbrev pub invariant-loop-r : goal.invariant-loop-r
-invariant-loop-r l = TailsGoing l.weights l.initial.table l.base l.rows l.table l.r
-
-abbrev pub decreases-loop-r : goal.decreases-loop-r
-decreases-loop-r l = l.rows - l.r
+invariant-loop-r l = TailsGoing l.weights (as_rows l.initial.table) l.base (as_rows l.table) l.r

@@ -1,10 +1,8 @@
-use Prim.Native.Nat.{◌≤◌}
-use mathlib.Core.Path.{◌≡◌}
-use lib.ListN.{length}
+use Rattle.std.specs.Prelude.{◌≤◌}
 use Rattle.leap.proofs.calm.Given as goal
 
 abbrev pub invariant-loop-m : goal.invariant-loop-m
-invariant-loop-m l = (length l.y ≡ 12) × (l.m ≤ l.more)
+invariant-loop-m l = l.m ≤ l.more
 
 abbrev pub decreases-loop-m : goal.decreases-loop-m
 decreases-loop-m l = l.m

@@ -1,12 +1,7 @@
-use Prim.Native.Nat.{◌≤◌, ◌-◌}
-use mathlib.Core.Path.{◌≡◌}
-use lib.ListN.{length}
+use Rattle.std.specs.Prelude.{◌≡◌}
 use Rattle.terms.specs.Swaps.{exchange}
 use Rattle.laws.specs.Fill.{half}
 use Rattle.loads.proofs.exchange_in.Given as goal
 
 abbrev pub invariant-loop-k : goal.invariant-loop-k
-invariant-loop-k l = (l.k ≤ length l.initial.x) × (l.x ≡ half (exchange l.h l.t l.initial.x) l.initial.x l.k) × (length l.x ≡ length l.initial.x)
-
-abbrev pub decreases-loop-k : goal.decreases-loop-k
-decreases-loop-k l = length l.initial.x - l.k
+invariant-loop-k l = l.x ≡ half (exchange l.h l.t l.initial.x) l.initial.x l.k

@@ -1,39 +1,27 @@
-use Prim.Native.Nat.{ℕ}
-use mathlib.Core.Path.{subst, sym, ◌∙◌}
-use mathlib.Core.List.{List}
-use native.Mathlib.Omega.{arith}
-use borrow.Author.Count.{below_more}
-use lib.ListN.{length}
+use Rattle.std.specs.Prelude.{ℕ, ◌≤◌, ◌<◌, List, Option, None, Some, MatchOption, unwrap_or, ◌≡◌, true, false}
+use Rattle.std.proofs.Common.{rules, arith, refl, sym, subst}
+use Rattle.terms.specs.Decides.{Decides}
+use Rattle.std.proofs.lemmas.Iterator.{first_from_Range}
 use Rattle.terms.specs.Load.{Fits}
 use Rattle.terms.specs.Flat.{left_at}
-use Rattle.laws.specs.Flat.{row_in}
+use Rattle.loads.specs.FirstRow.{FirstRow}
 use Rattle.loads.proofs.first_fit.Goals as goal
 
-pub loop-r-init : goal.loop-r-init
-loop-r-init c = (omega arith, λ k l. absurd (omega arith))
+-- what `find` over the rows says, as the first row
+first_row : (n : ℕ) (flat : List ℕ) (rows : ℕ) (x : List ℕ) (r : Option ℕ) → MatchOption r ((k : ℕ) → 0 ≤ k → k < rows → Fits (left_at n flat k) x → ⊥) (λ i. (0 ≤ i) × (i < rows) × Fits (left_at n flat i) x × ((k : ℕ) → 0 ≤ k → k < i → Fits (left_at n flat k) x → ⊥)) → FirstRow n flat rows x (unwrap_or r rows)
+first_row n flat rows x None m = record { within = omega arith; none_before = λ k l. m k (omega arith) l; fits_there = λ l. absurd (omega arith) }
+first_row n flat rows x (Some i) m = record { within = omega arith; none_before = λ k l. m.3 k (omega arith) l; fits_there = λ l. m.2 }
 
-pub left_of-requires : goal.left_of-requires
-left_of-requires c = row_in c.args.n c.args.rows c.loop-r.r (length c.args.flat.now) c.loop-r-test.true c.requires.0
+-- of the part that left_of gives, and so of the row
+fit_there : {h g : List ℕ} (x : List ℕ) → h ≡ g → Decides (Fits h x) true → Fits g x
+fit_there x e d = subst (λ (h : List ℕ). Fits h x) e (d.holds refl)
 
-pub fits_in-requires : goal.fits_in-requires
-fits_in-requires c = c.left_of.ensures.1 ∙ sym c.requires.1
+fit_not : {h g : List ℕ} (x : List ℕ) → h ≡ g → Decides (Fits h x) false → Fits g x → ⊥
+fit_not x e d w = d.fails refl (subst (λ (h : List ℕ). Fits h x) (sym e) w)
 
-pub returns-then-fits_in : goal.returns-then-fits_in
-returns-then-fits_in c =
-    let loop = c.loop-r in
+pub returns-clause-first : goal.returns-clause-first
+returns-clause-first c =
     let a = c.args in
-    record {
-      within = loop.invariant.0;
-      none_before = loop.invariant.1;
-      fits_there = λ l. subst (λ (h : List ℕ). Fits h a.x.now) c.left_of.ensures.0 (c.fits_in.ensures.holds c.if-fits_in.true);
-    }
-
-pub loop-r-preserved : goal.loop-r-preserved
-loop-r-preserved c =
-    let loop = c.loop-r in
-    let a = c.args in
-    let no-fit : Fits (left_at a.n a.flat.now loop.r) a.x.now → ⊥ = λ w. c.fits_in.ensures.fails c.if-fits_in.false (subst (λ (h : List ℕ). Fits h a.x.now) (sym c.left_of.ensures.0) w) in
-    (omega arith, below_more (λ (k : ℕ). Fits (left_at a.n a.flat.now k) a.x.now → ⊥) loop.r loop.invariant.1 no-fit)
-
-pub returns : goal.returns
-returns c = record { within = c.loop-r.invariant.0; none_before = c.loop-r.invariant.1; fits_there = λ l. absurd (omega arith) }
+    let there = λ (k : ℕ). Fits (left_at a.n a.flat.now k) a.x.now in
+    first_row a.n a.flat.now a.rows a.x.now c.find.result
+    (first_from_Range _ _ _ _ there (λ k. there k → ⊥) c.find.ensures.ran (λ k q h. search (rules, fit_there)) (λ k q h. search (rules, fit_not)))

@@ -1,30 +1,18 @@
-use Prim.Native.Nat.{ℕ, ◌≤◌, ◌*◌}
-use mir.Syntax.{w16}
-use mir.Val.{Fits}
-use native.Mathlib.Omega.{arith}
-use Rattle.laws.specs.Walk.{grade_next, grade_done, product_most}
+use Rattle.std.specs.Prelude.{nat_abs}
+use Rattle.std.proofs.Common.{ap, ◌∙◌, arith}
+use Rattle.laws.specs.Machine.{reads_pos}
+use Rattle.laws.specs.Order.{cost_grade}
 use Rattle.loads.proofs.grade_of.Goals as goal
 
-product : (a b : ℕ) → Fits w16 a → Fits w16 b → a * b ≤ 4294836225
-product a b p q = product_most 65535 65535 _ _ (omega arith) (omega arith)
-
-pub overflow_cast-sum : goal.overflow_cast-sum
-overflow_cast-sum c = omega (arith, c.type_inv.sizes c.loop-k.k)
-
-pub overflow_cast-sum-in-loop-k : goal.overflow_cast-sum-in-loop-k
-overflow_cast-sum-in-loop-k c = omega (arith, c.type_inv.x c.loop-k.k)
-
-pub overflow_mul-sum : goal.overflow_mul-sum
-overflow_mul-sum c = omega (arith, product _ _ (c.type_inv.sizes c.loop-k.k) (c.type_inv.x c.loop-k.k))
-
-pub overflow_add-sum : goal.overflow_add-sum
-overflow_add-sum c = omega (arith, product _ _ (c.type_inv.sizes c.loop-k.k) (c.type_inv.x c.loop-k.k))
-
-pub loop-k-preserved : goal.loop-k-preserved
-loop-k-preserved c =
-    let k = c.loop-k.k in
-    let args = c.args in
-    omega (arith, product _ _ (c.type_inv.sizes c.loop-k.k) (c.type_inv.x c.loop-k.k), grade_next args.sizes.now args.x.now k (omega arith) (omega arith))
+pub overflow_cast-result : goal.overflow_cast-result
+overflow_cast-result c =
+    let r = c.measure_of.result in
+    let is = reads_pos r _ (c.measure_of.ensures ∙ cost_grade c.args.sizes.now c.args.x.now) c.measure_of.type_inv in
+    let read = is.0 in
+    rw read (tt, omega (arith, is.1))
 
 pub returns : goal.returns
-returns c = omega (arith, grade_done c.args.sizes.now c.args.x.now c.loop-k.k (omega arith))
+returns c =
+    let r = c.measure_of.result in
+    let is = reads_pos r _ (c.measure_of.ensures ∙ cost_grade c.args.sizes.now c.args.x.now) c.measure_of.type_inv in
+    ap nat_abs is.0

@@ -1,45 +1,21 @@
-use Prim.Native.Nat.{◌+◌}
-use mathlib.Core.Path.{refl, sym, ap, ◌∙◌}
-use native.Mathlib.Omega.{arith}
-use lib.ListN.{length}
-use Rattle.laws.specs.Fill.{half_all, half_long, half_more}
-use Rattle.padding.specs.Widen.{weights}
-use Rattle.padding.specs.Kinds.{weights_long}
+use Rattle.std.proofs.Common.{sym, ap, ◌∙◌, arith, length, get_or, replicate}
+use Rattle.laws.specs.Fill.{half_more}
+use Rattle.padding.specs.Widen.{weight, weights}
+use Rattle.padding.specs.Kinds.{cost_read, weights_long, weight_here}
+use Rattle.padding.proofs.Weights.{weights_filled}
 use Rattle.padding.proofs.weigh_all.Goals as goal
-
-pub loop-k-init : goal.loop-k-init
-loop-k-init c = (omega arith, refl, c.requires.1)
-
-pub weight_at-requires : goal.weight_at-requires
-weight_at-requires c = (c.requires.0, omega arith)
-
-pub offset_bounds-out-k : goal.offset_bounds-out-k
-offset_bounds-out-k c = omega arith
-
-pub bounds-out-k : goal.bounds-out-k
-bounds-out-k c = omega arith
-
-pub overflow_add-k : goal.overflow_add-k
-overflow_add-k c = omega arith
-
-pub loop-k-smaller : goal.loop-k-smaller
-loop-k-smaller c = omega arith
 
 pub loop-k-preserved : goal.loop-k-preserved
 loop-k-preserved c =
-    let a = c.args in
-    let pre = c.requires in
+    let sizes = c.args.sizes.now in
+    let costs = c.args.costs.now in
+    let n = length sizes in
     let l = c.loop-k in
-    let long = weights_long a.n a.sizes.now a.costs.now pre.0 ∙ sym pre.1 in
-    let more = half_more (weights a.n a.sizes.now a.costs.now) a.out.now l.out l.k c.weight_at.result long (omega (arith, pre.1)) l.invariant.1 c.weight_at.ensures in
-    (omega arith, more, ap length more ∙ half_long (weights a.n a.sizes.now a.costs.now) a.out.now (l.k + 1) long (omega (arith, pre.1)) ∙ pre.1)
-
-pub shape_of-out : goal.shape_of-out
-shape_of-out c = c.loop-k.invariant.2 ∙ sym c.requires.1
+    let fine = c.requires in
+    let read = c.weigh.ensures ∙ ap (weight (get_or sizes l.k 0)) (cost_read n sizes costs fine l.k (omega arith)) ∙ sym (weight_here n sizes costs fine l.k (omega arith)) in
+    half_more (weights n sizes costs) (replicate 12 c.weigh-weights.result) l.weights l.k c.weigh.result (weights_long n sizes costs fine) (omega (arith, fine.few)) l.invariant read
 
 pub returns : goal.returns
 returns c =
-    let a = c.args in
-    let pre = c.requires in
     let l = c.loop-k in
-    l.invariant.1 ∙ half_all (weights a.n a.sizes.now a.costs.now) a.out.now l.k (omega (arith, weights_long a.n a.sizes.now a.costs.now pre.0)) (omega (arith, pre.1))
+    l.invariant ∙ weights_filled (length c.args.sizes.now) c.args.sizes.now c.args.costs.now c.requires c.weigh-weights.result l.k c.weigh-weights.ensures (omega arith)

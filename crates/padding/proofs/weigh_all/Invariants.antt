@@ -1,13 +1,7 @@
-use Prim.Native.Nat.{◌≤◌, ◌-◌}
-use mathlib.Core.Path.{◌≡◌}
-use lib.ListN.{length}
-use Rattle.terms.specs.Limits.{most_kinds}
+use Rattle.std.proofs.Common.{◌≡◌, length}
 use Rattle.laws.specs.Fill.{half}
 use Rattle.padding.specs.Widen.{weights}
 use Rattle.padding.proofs.weigh_all.Given as goal
 
 abbrev pub invariant-loop-k : goal.invariant-loop-k
-invariant-loop-k l = (l.k ≤ most_kinds) × (l.out ≡ half (weights l.n l.sizes l.costs) l.initial.out l.k) × (length l.out ≡ most_kinds)
-
-abbrev pub decreases-loop-k : goal.decreases-loop-k
-decreases-loop-k l = most_kinds - l.k
+invariant-loop-k l = l.weights ≡ half (weights (length l.sizes) l.sizes l.costs) l.initial.weights l.k

@@ -1,65 +1,32 @@
-use Prim.Native.Nat.{◌<◌}
-use mathlib.Core.Path.{◌≡◌, refl, ◌∙◌}
-use native.Mathlib.Omega.{arith}
-use lib.ListN.{length-set}
+use Rattle.std.proofs.Common.{List, length, arith, ap, sym}
+use Rattle.std.proofs.lemmas.List.{length-map}
+use Rattle.rack.specs.Rows.{as_row, as_rows}
+use Rattle.pairs.specs.declared.Candidate.{Candidate}
 use Rattle.pairs.proofs.Laws.{triangle_room}
-use Rattle.pairs.proofs.Entering.{entering_start, entering_next, entering_end}
+use Rattle.pairs.proofs.Entering.{contained, entering_start, entering_next, entering_end}
 use Rattle.pairs.proofs.enter.Goals as goal
 
-pub candidates-m-requires : goal.candidates-m-requires
-candidates-m-requires c = (c.requires.0, refl, refl)
+pub loop-pivot-init : goal.loop-pivot-init
+loop-pivot-init c = entering_start c.args.bound c.args.sizes.now (as_rows c.args.table.now) c.args.j c.candidates-candidates.result.items c.args.list.now.items c.requires.1 c.candidates-candidates.ensures
 
-pub loop-m-init : goal.loop-m-init
-loop-m-init c =
-    let picked = c.candidates-m in
-    (c.requires.1, c.requires.2, picked.auto.cand, picked.auto.grades, omega (arith, picked.ensures.few, c.requires.0.most), entering_start c.args.bound c.args.sizes.now c.args.table.now c.args.j picked.new.cand picked.new.grades picked.result c.args.due.now c.args.mates.now c.args.pairs c.requires.3 picked.ensures)
+pub push-requires : goal.push-requires
+push-requires c = (omega arith, omega (arith, c.in-Some.ensures.1, ap (λ (l : List Candidate). length l) c.deref.ensures.0, c.loop-pivot.invariant.few, triangle_room c.args.j (omega (arith, c.requires.0.most))))
 
-pub offset_bounds-due-count : goal.offset_bounds-due-count
-offset_bounds-due-count c = omega (arith, c.loop-m.invariant.5.few, triangle_room c.args.j (omega (arith, c.requires.0.most)))
+pub sift-requires : goal.sift-requires
+sift-requires c = (omega (arith, c.from.ensures, c.loop-pivot.invariant.right.below c.in-Some.pivot (contained c.deref.ensures.0 c.in-Some.ensures)), omega (arith, c.requires.0.rows, length-map c.args.table.now as_row))
 
-pub bounds-due-count : goal.bounds-due-count
-bounds-due-count c = omega (arith, c.loop-m.invariant.5.few, triangle_room c.args.j (omega (arith, c.requires.0.most)))
+pub loop-pivot-smaller : goal.loop-pivot-smaller
+loop-pivot-smaller c = c.sift.ensures.fewer (c.in-Some.pivot, contained c.deref.ensures.0 c.in-Some.ensures, sym c.from.ensures)
 
-pub overflow_mul-mates : goal.overflow_mul-mates
-overflow_mul-mates c = omega (arith, c.loop-m.invariant.5.right.below c.least-at.result c.least-at.ensures, c.requires.0.most)
-
-pub overflow_cast-mates : goal.overflow_cast-mates
-overflow_cast-mates c = omega (arith, c.requires.0.most)
-
-pub overflow_add-mates : goal.overflow_add-mates
-overflow_add-mates c = omega (arith, c.loop-m.invariant.5.right.below c.least-at.result c.least-at.ensures, c.requires.0.most)
-
-pub offset_bounds-mates-count : goal.offset_bounds-mates-count
-offset_bounds-mates-count c = omega (arith, c.loop-m.invariant.5.few, triangle_room c.args.j (omega (arith, c.requires.0.most)))
-
-pub bounds-mates-count : goal.bounds-mates-count
-bounds-mates-count c = omega (arith, c.loop-m.invariant.5.few, triangle_room c.args.j (omega (arith, c.requires.0.most)))
-
-pub overflow_add-count : goal.overflow_add-count
-overflow_add-count c = omega (arith, c.loop-m.invariant.5.few, triangle_room c.args.j (omega (arith, c.requires.0.most)))
-
-pub overflow_cast-p : goal.overflow_cast-p
-overflow_cast-p c = omega (arith, c.loop-m.invariant.5.right.below c.least-at.result c.least-at.ensures, c.requires.0.most)
-
-pub sift-m-requires : goal.sift-m-requires
-sift-m-requires c =
-    let loop = c.loop-m in
-    (omega arith, omega arith, c.loop-m.invariant.5.right.below c.least-at.result c.least-at.ensures, c.requires.0.rows, loop.invariant.5.right.below)
-
-pub loop-m-smaller : goal.loop-m-smaller
-loop-m-smaller c = c.sift-m.ensures.fewer (c.least-at.result, c.least-at.ensures, refl)
-
-pub loop-m-preserved : goal.loop-m-preserved
-loop-m-preserved c =
+pub loop-pivot-preserved : goal.loop-pivot-preserved
+loop-pivot-preserved c =
     let a = c.args in
-    let loop = c.loop-m in
-    let sifted = c.sift-m in
-    let full : loop.count < 32640 = omega (arith, c.loop-m.invariant.5.few, triangle_room c.args.j (omega (arith, c.requires.0.most))) in
-    (simp length-set loop.invariant.0, simp length-set loop.invariant.1, sifted.auto.cand ∙ loop.invariant.2, sifted.auto.grades ∙ loop.invariant.3, omega (arith, sifted.ensures.few, loop.invariant.4), entering_next a.bound a.sizes.now a.table.now a.j loop.cand loop.grades loop.m loop.due loop.mates loop.count loop.invariant.5 c.least-at.result c.least-at.ensures (omega (arith, full)) (omega (arith, full)) sifted.new.cand sifted.new.grades sifted.result sifted.ensures)
+    let loop = c.loop-pivot in
+    let left = c.sift.new.candidates.items in
+    rw c.push.ensures.items (entering_next a.bound a.sizes.now (as_rows a.table.now) a.j loop.candidates.items loop.list.items loop.invariant c.in-Some.pivot (contained c.deref.ensures.0 c.in-Some.ensures) left (rw c.from.ensures at c.sift.ensures))
 
 pub returns : goal.returns
 returns c =
     let a = c.args in
-    let loop = c.loop-m in
-    let none : loop.m ≡ 0 = omega arith in
-    entering_end a.bound a.sizes.now a.table.now a.j loop.cand loop.grades loop.due loop.mates loop.count (rw none at loop.invariant.5)
+    let loop = c.loop-pivot in
+    entering_end a.bound a.sizes.now (as_rows a.table.now) a.j loop.candidates.items loop.list.items (omega (arith, c.in_default.ensures, ap (λ (l : List Candidate). length l) c.deref.ensures.0)) loop.invariant

@@ -1,13 +1,9 @@
-use mathlib.Core.Path.{◌≡◌}
-use native.Mathlib.Omega.{arith}
-use Rattle.pairs.proofs.Laws.{next_above_start}
+use Rattle.std.proofs.Common.{inl, inr, rules, ◌≡◌, ◌∙◌}
+use Rattle.pairs.proofs.Laws.{next_above_more}
 use Rattle.pairs.proofs.next_above.Goals as goal
+use Rattle.pairs.proofs.next_above.Goals.{then-g-grade, else-g-grade}
 
-pub loop-k-init : goal.loop-k-init
-loop-k-init c = (omega arith, next_above_start c.args.grades.now c.args.g c.args.limit (omega arith))
-
-pub overflow_cast-d : goal.overflow_cast-d
-overflow_cast-d c = omega (arith, c.type_inv.grades c.loop-k.k)
-
-pub returns : goal.returns
-returns c = let e : c.loop-k.k ≡ c.args.count = omega arith in rw e at c.loop-k.invariant.1
+pub loop-due-preserved : goal.loop-due-preserved
+loop-due-preserved g c =
+    let same : c.from-grade.result ≡ c.in-Some.due = search rules in
+    rw c.min-best.ensures (next_above_more c.loop-due.yielded c.args.g c.args.limit c.loop-due.best c.in-Some.due c.if-g-grade.taken c.requires.below c.loop-due.invariant (elim c.if-g-grade.branch [ then-g-grade w ↦ inl (rw same at w.if-g-grade.true, w.taken-is ∙ same) | else-g-grade w ↦ inr (rw same at w.if-g-grade.false, w.taken-is) ]))

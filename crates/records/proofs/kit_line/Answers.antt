@@ -1,45 +1,31 @@
-use mathlib.Core.Path.{refl, ap}
-use Rattle.shapes.specs.Split.{split}
+use Rattle.std.specs.Prelude.{refl, ◌≡◌}
+use Rattle.std.proofs.Common.{rules, arith, sym, ap, ◌∙◌}
+use Rattle.terms.specs.declared.Refused.{Refused}
+use Rattle.shapes.specs.Split.{wrong, split}
+use Rattle.records.specs.Lines.{within}
+use Rattle.records.proofs.Codes as codes
 use Rattle.records.proofs.Answers as answers
 use Rattle.records.proofs.kit_line.Goals as goal
 
-pub returns-in_default : goal.returns-in_default
-returns-in_default c =
-    let a = c.args in
-    let x = c.line_at in
-    ap answers.kitted (answers.plain_shut 1 0 2 2 (split 10 a.text.now) x.result x.new.row a.text.now refl x.ensures.1 c.in_default.not-On)
+pub returns-in_err-next : goal.returns-in_err-next
+returns-in_err-next c = rw (codes.not_read (codes.plain 1 1000 (omega arith) (omega arith)) 1 0 2 2 refl (split 10 c.args.text.now) _ _ c.in_err-next.ensures) (search rules)
 
-pub returns-then-n-lt1 : goal.returns-then-n-lt1
-returns-then-n-lt1 c =
-    let a = c.args in
-    let x = c.line_at in
-    let out = x.new.row in
-    answers.kit_few (split 10 a.text.now) out _ (answers.plain_open 1 0 2 2 (split 10 a.text.now) x.result out a.text.now refl x.ensures.1 _ c.in-On.is) c.wide-n.result c.wide-bound.result c.wide-n.ensures c.wide-bound.ensures c.if-n-lt1.true
+pub returns-then-not-contains : goal.returns-then-not-contains
+returns-then-not-contains c =
+    let o = c.of-kit.ensures in
+    let t : c.contains.result ≡ within 1 12 c.of-kit.result.kinds = search rules in
+    answers.kit_tested (split 10 c.args.text.now) _ _ c.in_ok-next.ensures _ _ o.0 o.1 ∙ (rw (sym t ∙ c.if-not-contains.true) (ap (λ (r : Refused). wrong r.why r.place) (sym c.at.ensures)))
 
-pub returns-then-n-gt-KINDS : goal.returns-then-n-gt-KINDS
-returns-then-n-gt-KINDS c =
-    let a = c.args in
-    let x = c.line_at in
-    let out = x.new.row in
-    answers.kit_many (split 10 a.text.now) out _ (answers.plain_open 1 0 2 2 (split 10 a.text.now) x.result out a.text.now refl x.ensures.1 _ c.in-On.is) c.wide-n.result c.wide-bound.result c.wide-n.ensures c.wide-bound.ensures c.if-n-lt1.false c.if-n-gt-KINDS.true
-
-pub returns-then-bound-lt1 : goal.returns-then-bound-lt1
-returns-then-bound-lt1 c =
-    let a = c.args in
-    let x = c.line_at in
-    let out = x.new.row in
-    answers.bound_few (split 10 a.text.now) out _ (answers.plain_open 1 0 2 2 (split 10 a.text.now) x.result out a.text.now refl x.ensures.1 _ c.in-On.is) c.wide-n.result c.wide-bound.result c.wide-n.ensures c.wide-bound.ensures c.if-n-lt1.false c.if-n-gt-KINDS.false c.if-bound-lt1.true
-
-pub returns-then-bound-gt-BOUND : goal.returns-then-bound-gt-BOUND
-returns-then-bound-gt-BOUND c =
-    let a = c.args in
-    let x = c.line_at in
-    let out = x.new.row in
-    answers.bound_many (split 10 a.text.now) out _ (answers.plain_open 1 0 2 2 (split 10 a.text.now) x.result out a.text.now refl x.ensures.1 _ c.in-On.is) c.wide-n.result c.wide-bound.result c.wide-n.ensures c.wide-bound.ensures c.if-n-lt1.false c.if-n-gt-KINDS.false c.if-bound-lt1.false c.if-bound-gt-BOUND.true
+pub returns-then-not-contains-2 : goal.returns-then-not-contains-2
+returns-then-not-contains-2 c =
+    let o = c.of-kit.ensures in
+    let t : c.contains.result ≡ within 1 12 c.of-kit.result.kinds = search rules in
+    let u : c.contains-2.result ≡ within 1 1000 c.of-kit.result.bound = search rules in
+    answers.kit_tested (split 10 c.args.text.now) _ _ c.in_ok-next.ensures _ _ o.0 o.1 ∙ rw (sym t ∙ c.if-not-contains.false, sym u ∙ c.if-not-contains-2.true) (ap (λ (r : Refused). wrong r.why r.place) (sym c.at-then-not-contains-2.ensures))
 
 pub returns : goal.returns
 returns c =
-    let a = c.args in
-    let x = c.line_at in
-    let out = x.new.row in
-    answers.kit_fine (split 10 a.text.now) out _ (answers.plain_open 1 0 2 2 (split 10 a.text.now) x.result out a.text.now refl x.ensures.1 _ c.in-On.is) c.wide-n.result c.wide-bound.result c.wide-n.ensures c.wide-bound.ensures c.if-n-lt1.false c.if-n-gt-KINDS.false c.if-bound-lt1.false c.if-bound-gt-BOUND.false
+    let o = c.of-kit.ensures in
+    let t : c.contains.result ≡ within 1 12 c.of-kit.result.kinds = search rules in
+    let u : c.contains-2.result ≡ within 1 1000 c.of-kit.result.bound = search rules in
+    answers.kit_tested (split 10 c.args.text.now) _ _ c.in_ok-next.ensures _ _ o.0 o.1 ∙ rw (sym t ∙ c.if-not-contains.false, sym u ∙ c.if-not-contains-2.false)

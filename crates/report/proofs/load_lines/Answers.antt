@@ -1,79 +1,50 @@
-use Prim.Native.Nat.{ℕ, ◌+◌, ◌*◌, ◌-◌, ◌≤◌, ◌<◌}
-use Rattle.std.proofs.Common.{List}
-use mathlib.Core.Path.{◌≡◌, refl, ◌∙◌}
-use borrow.Rule.Slice.PartMut.{same_len_mid}
-use native.Mathlib.Omega.{arith}
-use lib.ListN.{length}
-use Rattle.terms.specs.Flat.{table_of}
-use Rattle.print.proofs.Storing.{stored_length}
+use Rattle.std.proofs.Common.{◌≡◌, ◌+◌, ◌∙◌, sym, rules, arith}
+use Rattle.std.specs.Iterator.Adapters.{enumerate_count}
+use Rattle.report.specs.Report.{LineBy, load_at}
+use Rattle.report.proofs.Parts.{first_load, later_loads, at_end}
 use Rattle.report.proofs.Writing.{written_none, written_next, written_of}
-use Rattle.report.proofs.Rows.{item_in, item_part, item_past, item_long}
-use Rattle.report.specs.Report.{LoadLine, load_at}
 use Rattle.report.proofs.load_lines.Goals as goal
 
--- load i lies within the buffer, whose length is as lent
-lies : (n count i : ℕ) (lent now : List ℕ) → i < count → count * n ≤ length lent → length now ≡ length lent → i * n + n ≤ length now
-lies n count i lent now l h e = omega (arith, item_in n count i (length lent) l h)
-
 pub loop-i-init : goal.loop-i-init
-loop-i-init c = (omega arith, refl, refl, written_none _ _ _, omega arith)
-
-pub overflow_mul-from : goal.overflow_mul-from
-overflow_mul-from c = omega (arith, lies c.args.n c.args.count c.loop-i.i _ _ c.loop-i-test.true c.requires.ready.1 c.loop-i.invariant.2)
-
-pub overflow_add-from : goal.overflow_add-from
-overflow_add-from c = omega (arith, lies c.args.n c.args.count c.loop-i.i _ _ c.loop-i-test.true c.requires.ready.1 c.loop-i.invariant.2)
-
-pub offset_bounds-loads-from : goal.offset_bounds-loads-from
-offset_bounds-loads-from c = omega (arith, lies c.args.n c.args.count c.loop-i.i _ _ c.loop-i-test.true c.requires.ready.1 c.loop-i.invariant.2)
-
-pub slice_bounds-load_line-count : goal.slice_bounds-load_line-count
-slice_bounds-load_line-count c = omega arith
-
-pub slice_bounds-load_line-start : goal.slice_bounds-load_line-start
-slice_bounds-load_line-start c = omega arith
-
-pub slice_bounds-load_line-end : goal.slice_bounds-load_line-end
-slice_bounds-load_line-end c = omega (arith, lies c.args.n c.args.count c.loop-i.i _ _ c.loop-i-test.true c.requires.ready.1 c.loop-i.invariant.2)
-
-pub overflow_add-first : goal.overflow_add-first
-overflow_add-first c = omega arith
-
-pub load_line-next-requires : goal.load_line-next-requires
-load_line-next-requires c =
-    let l = c.loop-i in
-    record { ready = (c.requires.ready.0, item_long c.args.n l.i l.loads (lies c.args.n c.args.count c.loop-i.i _ _ c.loop-i-test.true c.requires.ready.1 c.loop-i.invariant.2)); has_room = omega (arith, stored_length l.invariant.3.stored) }
-
-pub overflow_add-i : goal.overflow_add-i
-overflow_add-i c = omega arith
-
-pub loop-i-smaller : goal.loop-i-smaller
-loop-i-smaller c = omega arith
+loop-i-init g c =
+    let a = c.args in
+    let e : enumerate_count c.into_iter-i-iterator.result ≡ 0 = search rules in
+    record {
+      can = search rules;
+      ends = search rules;
+      left = search rules;
+      width = search rules;
+      rest = rw e (search rules);
+      written = rw e (written_none (λ k. LineBy a.table.now (a.first + k) (load_at a.table.now.kit.kinds a.loads.now k)) a.out.now.items);
+      short = omega (arith, e);
+    }
 
 pub loop-i-preserved : goal.loop-i-preserved
-loop-i-preserved c =
+loop-i-preserved g c =
     let a = c.args in
-    let n = a.n in
-    let table = table_of n a.rules.now a.rows in
-    let l = c.loop-i in
-    let line = c.load_line-next in
-    let part = item_part n l.i l.loads a.loads.now l.invariant.1 in
-    let kept = line.auto.load in (
-      omega arith,
-      item_past n l.i l.loads a.loads.now l.invariant.1 line.new.load (lies c.args.n c.args.count c.loop-i.i _ _ c.loop-i-test.true c.requires.ready.1 c.loop-i.invariant.2) (kept ∙ item_long n l.i l.loads (lies c.args.n c.args.count c.loop-i.i _ _ c.loop-i-test.true c.requires.ready.1 c.loop-i.invariant.2)),
-      same_len_mid (l.i * n) (l.i * n + n - l.i * n) l.loads line.new.load kept ∙ l.invariant.2,
-      written_next (λ k. LoadLine a.bound a.sizes.now table (a.first + k) (load_at n a.loads.now k)) l.i l.invariant.3
-          (written_of (LoadLine a.bound a.sizes.now table (a.first + l.i)) part line.ensures.written),
-      omega arith,
-    )
+    let n = a.table.now.kit.kinds in
+    let i = enumerate_count c.loop-i.i-iterator in
+    let kept = c.loop-i.invariant in
+    let s = c.in-Some.ensures.steps in
+    let next : enumerate_count c.next.new.self ≡ i + 1 = s.2 in
+    let left = sym kept.rest ∙ s.0.0.1.0 in
+    let long = s.0.0.1.1 ∙ kept.width in
+    record {
+      can = search rules;
+      ends = search rules;
+      left = search rules;
+      width = search rules;
+      rest = rw next (later_loads n i a.loads.now _ _ left long);
+      written = rw next
+          (written_next (λ k. LineBy a.table.now (a.first + k) (load_at n a.loads.now k)) i kept.written
+          (written_of (LineBy a.table.now (a.first + i)) (first_load n i a.loads.now _ _ left long) (rw s.1 at c.load_line.ensures.written)));
+      short = omega (arith, next, kept.short, c.load_line.ensures.upper_bound);
+    }
 
-pub shape_of-out : goal.shape_of-out
-shape_of-out c = stored_length c.loop-i.invariant.3.stored
-
-pub shape_of-loads : goal.shape_of-loads
-shape_of-loads c = c.loop-i.invariant.2
-
-pub returns : goal.returns
-returns c =
-    let e : c.loop-i.i ≡ c.args.count = omega arith in
-    record { written = rw e at c.loop-i.invariant.3; upper_bound = omega arith }
+pub returns-clause-written : goal.returns-clause-written
+returns-clause-written g c =
+    let a = c.args in
+    let kept = c.loop-i.invariant in
+    let s = c.in-None.ensures.steps in
+    let all = at_end a.table.now.kit.kinds _ _ a.count a.loads.now kept.left c.requires.ready.1 (λ more. rw (kept.rest, kept.width) at (s.0 more).1.0) in
+    rw all at kept.written

@@ -1,17 +1,16 @@
-use Prim.Native.Nat.{◌+◌, ◌*◌, ◌-◌, ◌≤◌}
-use mathlib.Core.Path.{◌≡◌}
-use lib.ListN.{length, drop}
-use Rattle.terms.specs.Flat.{table_of}
-use Rattle.report.specs.Report.{LoadLine, load_at, Lines, Written, load_most}
+use Rattle.std.proofs.Common.{◌≡◌, ◌+◌, ◌*◌, ◌≤◌, length, drop}
+use Rattle.std.specs.Iterator.Adapters.{enumerate_source, enumerate_count, take_source, take_count}
+use Rattle.std.specs.Slice.Iter.{chunks_exact_rest, chunks_exact_size}
+use Rattle.report.specs.Report.{LinesBy, Written, load_most}
 use Rattle.report.proofs.load_lines.Given as goal
 
 abbrev pub invariant-loop-i : goal.invariant-loop-i
-invariant-loop-i l =
-    (l.i ≤ l.count)
-    × (drop (l.i * l.n) l.loads ≡ drop (l.i * l.n) l.initial.loads)
-    × (length l.loads ≡ length l.initial.loads)
-    × Written (Lines (λ k. LoadLine l.bound l.sizes (table_of l.n l.rules l.rows) (l.first + k) (load_at l.n l.initial.loads k)) l.i) l.at l.initial.out l.next l.out
-    × (l.next ≤ l.at + l.i * load_most)
-
-abbrev pub decreases-loop-i : goal.decreases-loop-i
-decreases-loop-i l = l.count - l.i
+invariant-loop-i g l = record {
+  can : (goal.iterator-loop-i g).can_next l.i-iterator;
+  ends : (goal.iterator-loop-i g).is_finite l.i-iterator;
+  left : enumerate_count l.i-iterator + take_count (enumerate_source l.i-iterator) ≡ l.count;
+  width : chunks_exact_size (take_source (enumerate_source l.i-iterator)) ≡ l.table.kit.kinds;
+  rest : chunks_exact_rest (take_source (enumerate_source l.i-iterator)) ≡ drop (enumerate_count l.i-iterator * l.table.kit.kinds) l.fn.loads;
+  written : Written (LinesBy l.table l.fn.loads l.first (enumerate_count l.i-iterator)) l.initial.out.items l.out.items;
+  short : length l.out.items ≤ length l.initial.out.items + enumerate_count l.i-iterator * load_most;
+}

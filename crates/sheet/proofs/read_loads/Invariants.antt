@@ -1,8 +1,5 @@
 -- `sheet::read_loads` meets its contract. The loads stored so far and the text at the place say what the whole text says.
-use Prim.Native.Nat.{◌≤◌, ◌-◌, ◌*◌}
-use mathlib.Core.Path.{◌≡◌}
-use mathlib.Core.List.{[]}
-use lib.ListN.{length, take, drop}
+use Rattle.std.specs.Prelude.{◌≤◌, ◌-◌, ◌*◌, ◌≡◌, [], length, take, drop}
 use Rattle.shapes.specs.Split.{split}
 use Rattle.sheet.specs.Sheet.{load_lines}
 use Rattle.sheet.proofs.read_loads.Given as goal

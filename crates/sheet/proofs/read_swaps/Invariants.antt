@@ -1,8 +1,5 @@
 -- `sheet::read_swaps` meets its contract. The swaps stored so far and the text at the place say what the whole text says.
-use Prim.Native.Nat.{◌≤◌, ◌-◌, ◌*◌}
-use mathlib.Core.Path.{◌≡◌}
-use mathlib.Core.List.{[]}
-use lib.ListN.{length, take, drop}
+use Rattle.std.specs.Prelude.{◌≤◌, ◌-◌, ◌*◌, ◌≡◌, [], length, take, drop}
 use Rattle.shapes.specs.Split.{split}
 use Rattle.sheet.specs.Sheet.{swap_lines}
 use Rattle.sheet.proofs.read_swaps.Given as goal

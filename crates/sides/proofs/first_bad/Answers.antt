@@ -1,34 +1,26 @@
-use native.Mathlib.Omega.{arith}
-use lib.ListN.{length}
-use borrow.Author.Count.{below_more}
-use Rattle.laws.specs.Flat.{row_in}
+use Rattle.std.proofs.Common.{rules, ◌≤◌, ◌<◌, arith, ℕ, List, tests}
+use Rattle.std.specs.Prelude.{Option, None, Some, MatchOption, unwrap_or}
+use Rattle.std.proofs.lemmas.Iterator.{first_from_Range}
+use Rattle.terms.specs.Flat.{swap_at}
+use Rattle.sides.specs.Fine.{Unequal, Even, LowestBad}
 use Rattle.sides.proofs.first_bad.Goals as goal
 
-pub loop-k-init : goal.loop-k-init
-loop-k-init c = (omega arith, λ i l. absurd (omega arith))
+abbrev Good : ℕ → List ℕ → List ℕ → ℕ → Type 0
+Good n sizes swaps k = Unequal (swap_at n swaps k) × Even sizes (swap_at n swaps k)
 
-pub unequal-requires : goal.unequal-requires
-unequal-requires c = row_in c.args.n c.args.count c.loop-k.k (length c.args.swaps.now) c.loop-k-test.true c.requires.2
+abbrev Bad : ℕ → List ℕ → List ℕ → ℕ → Type 0
+Bad n sizes swaps k = Unequal (swap_at n swaps k) → Even sizes (swap_at n swaps k) → ⊥
 
-pub returns-then-not-unequal : goal.returns-then-not-unequal
-returns-then-not-unequal c =
-    let l = c.loop-k in
-    record { within = l.invariant.0; fine = l.invariant.1; bad = λ h u e. c.unequal.ensures.fails c.if-not-unequal.true u }
+lowest : (n : ℕ) (sizes swaps : List ℕ) (count : ℕ) (r : Option ℕ) → MatchOption r ((k : ℕ) → 0 ≤ k → k < count → Good n sizes swaps k) (λ i. (0 ≤ i) × (i < count) × Bad n sizes swaps i × ((k : ℕ) → 0 ≤ k → k < i → Good n sizes swaps k)) → LowestBad n sizes swaps count (unwrap_or r count)
+lowest n sizes swaps count None h = record { within = omega arith; fine = λ i l. h i (omega arith) l; bad = λ l. absurd (omega arith) }
+lowest n sizes swaps count (Some k) (_, l, bad, fine) = record { within = omega arith; fine = λ i m. fine i (omega arith) m; bad = λ m. bad }
 
-pub even-requires : goal.even-requires
-even-requires c = (c.requires.0, c.requires.1, row_in c.args.n c.args.count c.loop-k.k (length c.args.swaps.now) c.loop-k-test.true c.requires.2)
-
-pub returns-then-not-even : goal.returns-then-not-even
-returns-then-not-even c =
-    let l = c.loop-k in
-    record { within = l.invariant.0; fine = l.invariant.1; bad = λ h u e. c.even.ensures.fails c.if-not-even.true e }
-
-pub loop-k-preserved : goal.loop-k-preserved
-loop-k-preserved c =
-    let l = c.loop-k in
-    (omega arith, below_more _ l.k l.invariant.1 (c.unequal.ensures.holds c.if-not-unequal.false, c.even.ensures.holds c.if-not-even.false))
-
-pub returns : goal.returns
-returns c =
-    let l = c.loop-k in
-    record { within = l.invariant.0; fine = l.invariant.1; bad = λ h u e. absurd (omega arith) }
+pub returns-clause-first : goal.returns-clause-first
+returns-clause-first c =
+    let n = c.args.n in
+    let sizes = c.args.sizes.now in
+    let swaps = c.args.swaps.now in
+    lowest n sizes swaps c.args.count c.find.result
+    (first_from_Range _ _ _ _ (Bad n sizes swaps) (Good n sizes swaps) c.find.ensures.ran
+    (λ x q k. search (rules, tests))
+    (λ x q k. (search rules, search (rules, tests))))
