@@ -2,3 +2,4 @@
 pub mod Writing
 pub mod Counted
 pub mod Passed
+pub mod Lent

@@ -1,23 +1,33 @@
 // What the program writes for a sheet: the rule lines of the finished table, then a line for each load, or the refusal.
 #![tactic(auto)]
 
-ghost use Rattle.std.specs.Prelude.{◌+◌, ◌*◌, ◌≤◌, length, Ok};
+ghost use Rattle.std.specs.Prelude.{◌+◌, ◌/◌, ◌≤◌, ◌≡◌, length, Ok};
 ghost use Rattle.arrayvec.specs.ArrayVec.{array_vec_len};
 ghost use Rattle.terms.specs.Limits.{most_loads, most_text};
+ghost use Rattle.terms.specs.Refusals.{number_of};
 ghost use Rattle.report.specs.Report.{Written};
 ghost use Rattle.answers.specs.Answer.{Show, told_by, Answer, out_most, Counted};
 
 use arrayvec::ArrayVec;
 use settle::Table;
 use sheet::Counts;
-use terms::Kit;
+use terms::{Kit, Refusal};
 
-// How many counts the swaps of a sheet have at most, its loads, and the rows of its table.
+// How many counts the swaps of a sheet have at most.
 const SWAP_ROOM: usize = Kit::SWAPS * 2 * Kit::KINDS;
 
+// How many counts its loads have at most.
 const LOAD_ROOM: usize = Kit::LOADS * Kit::KINDS;
 
+// How many counts the rows of its table have at most.
 const RULE_ROOM: usize = Kit::ROWS * 2 * Kit::KINDS;
+
+// The number of a refusal as the printer takes it: a refusal gives a u32.
+fn number_of(why: Refusal) -> usize
+    ensures { result ≡ number_of why }
+{
+    u32::from(why) as usize
+}
 
 // The lines of a sheet that was read: the table's rules and the loads, or the refusal of the sheet's swaps. `rules` is the room that is lent.
 fn show<const N: usize>(
@@ -28,11 +38,10 @@ fn show<const N: usize>(
     swaps: &[u16],
     rules: &mut [u16],
     loads: &[u16],
-    count: usize,
     first: usize,
 )
-    requires { (count ≤ most_loads) × (count * kit.kinds ≤ length loads.now) × (first ≤ most_text) × (array_vec_len out.old + out_most ≤ N) }
-    ensures written { Written (Show kit.kinds kit.bound sizes.now costs.now swaps.now rules.old loads.now count first) out.old.items out.new.items }
+    requires { (length loads.now / kit.kinds ≤ most_loads) × (first ≤ most_text) × (array_vec_len out.old + out_most ≤ N) }
+    ensures written { Written (Show kit.kinds kit.bound sizes.now costs.now swaps.now rules.old loads.now (length loads.now / kit.kinds) first) out.old.items out.new.items }
 {
     match complete::complete(kit, sizes, costs, swaps, rules) {
         Ok(rows) => {
@@ -44,9 +53,9 @@ fn show<const N: usize>(
                 rows,
             };
             report::rule_lines(out, &table);
-            report::load_lines(out, &table, loads, count, first);
+            report::load_lines(out, &table, loads, first);
         }
-        Err(refused) => print::refused_line(out, u32::from(refused.why) as usize, 0),
+        Err(refused) => print::refused_line(out, number_of(refused.why), 0),
     }
 }
 
@@ -74,8 +83,7 @@ fn sheet_lines<const N: usize>(
         &costs[..kinds],
         &swaps[..used],
         &mut rules[..lent],
-        loads,
-        counts.loads,
+        &loads[..counts.loads * kinds],
         first,
     );
 }
@@ -91,6 +99,6 @@ pub fn answer<const N: usize>(text: &[u8], out: &mut ArrayVec<u8, N>)
     let mut loads = [0u16; LOAD_ROOM];
     match sheet::read_sheet(text, &mut sizes, &mut costs, &mut swaps, &mut loads) {
         Ok(counts) => sheet_lines(out, counts, &sizes, &costs, &swaps, &loads),
-        Err(refused) => print::refused_line(out, u32::from(refused.why) as usize, refused.place),
+        Err(refused) => print::refused_line(out, number_of(refused.why), refused.place),
     }
 }

@@ -56,7 +56,8 @@ pub fn pair_fine(n: usize, costs: &[i32], x: &[u16], y: &[u16]) -> bool
         && costs_fine(costs)
 }
 
-// The load that comes first in the cost order, as the part lent; equal loads give the first, and refused input its empty part.
+// The load that comes first in the cost order, as the part lent; equal loads give the first, and refused input its empty part. An
+// empty part and no None: `Earlier` says it so.
 pub fn earlier<'a>(n: usize, costs: &[i32], x: &'a [u16], y: &'a [u16]) -> &'a [u16]
     ensures { Earlier n costs.now x.entry y.entry result }
 {

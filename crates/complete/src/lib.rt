@@ -42,16 +42,11 @@ impl Sheet<'_> {
     }
 
     // The first test of what is lent that fails, as the refusal. It only reads.
+    #[tactic(auto, using(loads::specs::KitTests::kit_passed, loads::specs::KitTests::kit_stops))]
     pub fn tested(&self, rules: &[u16]) -> Result<(), Refused>
         ensures { Outcome (λ o. o.0 ≡ Ok tt) (input_tests self.now.kit.kinds self.now.kit.bound self.now.sizes.now self.now.costs.now self.now.swaps.now rules.now) (result, rules.now) }
     {
-        let n = self.kit.kinds;
-        if !loads::in_range(n, Kit::KINDS) {
-            return Err(Refusal::Kinds.at(0));
-        }
-        if !loads::in_range(self.kit.bound, Kit::BOUND) {
-            return Err(Refusal::Bound.at(0));
-        }
+        loads::kit_tested(self.kit, 0)?;
         if !self.lengths_fine(rules) {
             return Err(Refusal::Length.at(0));
         }
@@ -61,14 +56,11 @@ impl Sheet<'_> {
         if !compare::costs_fine(self.costs) {
             return Err(Refusal::Cost.at(0));
         }
-        let count = self.swaps.len() / (2 * n);
-        let Some(bad) = sides::first_bad(n, self.sizes, self.swaps, count) else {
-            return Ok(());
-        };
-        if !sides::unequal(n, self.swaps, bad) {
-            return Err(Refusal::SameSides.at(bad));
+        let count = self.swaps.len() / (2 * self.kit.kinds);
+        match sides::first_bad(self.sizes, self.swaps, count) {
+            Some(bad) => sides::tested(self.sizes, self.swaps, bad, bad),
+            None => Ok(()),
         }
-        Err(Refusal::UnequalGrades.at(bad))
     }
 
     // The sheet's swaps as swaps of 12 kinds with their stamps, for the sizes of the 12 kinds.
@@ -119,7 +111,7 @@ impl Sheet<'_> {
 }
 
 // The stamp of a load of 12 kinds: its grade where that is within the bound, else 0, at which nothing is due. A number and no Option:
-// growth's `stamp` says it so, and the scan for the next grade reads numbers side by side.
+// growth's `stamp` says it so.
 fn stamp_of(bound: usize, sizes: &[u16; Kit::KINDS], x: &[u16; Kit::KINDS]) -> u16
     requires { bound ≤ most_bound }
     ensures { result ≡ stamp bound (grade sizes.now x.now) }

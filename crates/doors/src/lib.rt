@@ -28,7 +28,8 @@ fn answer_place<T: Copy>(answer: Result<T, Refused>) -> usize
     }
 }
 
-// 1 or 2, the load that comes first; 0 where the input is refused.
+// 1 or 2, the load that comes first; 0 where the input is refused. It asks again what compare::earlier asks: C cannot be handed the
+// reference that tells which one came first.
 #[unsafe(no_mangle)]
 pub extern "C" fn kitsettle_earlier(
     kinds: usize,

@@ -109,8 +109,8 @@ module _ {bound : ℕ} {sizes weights : List ℕ} {sheet : List Swap} {stamps : 
         below_long = all_long
 
         -- what settling the tails asks, of the rows as they are lent
-        pub tails_asked : {rows : List Row} {n : ℕ} → rows ≡ t₂ → n ≡ length T → (sheet' : List Swap) × (stamps' : List ℕ) × (g' : ℕ) × (v : Within weights sheet' stamps' g' rows) × (length v.low ≡ n)
-        tails_asked e f = rw (e, f) (sheet, stamps, g, paired, below_long)
+        pub tails_asked : (rows : List Held) {n : ℕ} → as_rows rows ≡ t₂ → n ≡ length T → ((sheet' : List Swap) × (stamps' : List ℕ) × (g' : ℕ) × (v : Within weights sheet' stamps' g' (as_rows rows)) × (length v.low ≡ n)) × (n ≤ length rows)
+        tails_asked rows e f = (rw (e, f) (sheet, stamps, g, paired, below_long), omega (arith, f, sd.more, pd.more, ap length e, length-map rows as_row))
 
         -- ---- the tails are settled, and the new rows are in order
 

@@ -1,6 +1,6 @@
 -- What the loop over the grades keeps.
 -- Assumes nothing.
-use Rattle.std.specs.Prelude.{ℕ, suc, ◌+◌, ◌-◌, ◌≤◌, ◌<◌, ◌≡◌, refl, List, [], ◌∷◌, map, length, get_or}
+use Rattle.std.specs.Prelude.{ℕ, suc, ◌+◌, ◌-◌, ◌≤◌, ◌<◌, ◌≡◌, List, [], map, length, get_or}
 use Rattle.std.proofs.Common.{Option, map-id, sym, subst, ◌∙◌, arith}
 use Rattle.std.specs.Prelude.{true, false, Result, Ok, Err, MatchResult}
 use Rattle.std.specs.Result.{is_err}
@@ -11,7 +11,6 @@ use Rattle.terms.specs.Swaps.{◌∈◌, Swap}
 use Rattle.terms.specs.Table.{Row}
 use Rattle.laws.specs.Decides.{false_true}
 use Rattle.theory.specs.Index.{at_mem}
-use Rattle.rack.specs.declared.Row.{Row as Held}
 use Rattle.pairs.specs.declared.Pair.{Pair}
 use Rattle.pairs.specs.Pairs.{PairList, NextAbove}
 use Rattle.pairs.proofs.Laws.{pair_list_none}

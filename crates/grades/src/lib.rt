@@ -26,13 +26,15 @@ pub struct Stamped {
 #[derive(Clone, Copy)]
 struct NoRoom;
 
-// What completion works on: the sizes and weights of a kit of 12 kinds with its bound, and the swaps.
+// What completion works on: the sizes and weights of a kit of 12 kinds with its bound, the swaps, and the number of rows that there is room for.
 #[derive(Clone, Copy)]
 struct Work<'a> {
     sizes: &'a [u16; 12],
     weights: &'a [u32; 12],
     bound: usize,
     swaps: &'a [Stamped],
+    room: usize,
+    ghost few: { room ≤ 256 },
 }
 
 // Two loads joined: where they do not meet there is a new row.
@@ -47,7 +49,8 @@ fn joined(weights: &[u32; 12], table: &mut Table, mut x: [u16; 12], mut y: [u16;
     }
 }
 
-// What row (head, tail) makes of the least load that holds its head and the head q.
+// What row (head, tail) makes of the least load that holds its head and the head q. By place: after `iter_mut().zip(..)` the check knows
+// nothing of what was written.
 fn make(head: &[u16; 12], tail: &[u16; 12], q: &[u16; 12]) -> [u16; 12]
     requires { UpTo 65535 (exchange head.now tail.now (join head.now q.now)) }
     ensures { result ≡ exchange head.now tail.now (join head.now q.now) }
@@ -70,58 +73,53 @@ fn join_pair(weights: &[u32; 12], p: usize, j: usize, table: &mut Table)
     joined(weights, table, x, y);
 }
 
-// The listed pairs that are due at grade g joined, as far as there is room.
-// A loop of its own beside join_swaps: one for both would take the joining as a closure, and say of any closure what these two say of theirs.
-fn join_pairs(
-    weights: &[u32; 12],
-    list: &[Pair],
-    g: u16,
-    table: &mut Table,
-    room: usize,
-) -> Result<(), NoRoom>
-    requires listed { (sheet : List Swap) × (stamps : List ℕ) × Listing weights.now sheet stamps g list.now (as_rows table.old.items) }
-    requires has_room { (length table.old.items ≤ room) × (room ≤ 256) }
-    ensures done { PairsDone weights.now list.now g (as_rows table.old.items) room (as_rows table.new.items) }
-    ensures room { MatchResult result (λ _. length table.new.items ≤ room) (λ _. room < length table.new.items) }
-{
-    for pair in list {
-        if pair.due == g {
-            join_pair(
-                weights,
-                usize::from(pair.first),
-                usize::from(pair.second),
-                table,
-            );
-            if room < table.len() {
-                return Err(NoRoom);
-            }
-        }
-    }
-    Ok(())
-}
-
 // The tails of the rows from base on settled.
-fn settle_tails(weights: &[u32; 12], table: &mut [Row], base: usize)
-    requires inside { (sheet : List Swap) × (stamps : List ℕ) × (g : ℕ) × (w : Within weights.now sheet stamps g (as_rows table.old)) × (length w.low ≡ base) }
+fn settle_tails(table: &mut [Row], base: usize)
+    ghost weights: { List ℕ }
+    requires inside { (sheet : List Swap) × (stamps : List ℕ) × (g : ℕ) × (w : Within weights sheet stamps g (as_rows table.old)) × (length w.low ≡ base) }
     requires in_table { base ≤ length table.old }
-    ensures { TailsSettled weights.now (as_rows table.old) base (as_rows table.new) }
+    ensures { TailsSettled weights (as_rows table.old) base (as_rows table.new) }
 {
     for r in base..table.len() {
-        rack::settle_tail(weights, table, r);
+        rack::settle_tail(table, r);
     }
 }
 
 impl Work<'_> {
     // The swaps of grade g joined, as far as there is room.
-    fn join_swaps(&self, g: u16, table: &mut Table, room: usize) -> Result<(), NoRoom>
-        requires { Within self.now.weights.now (as_sheet self.now.swaps.now) (stamps_of self.now.swaps.now) g (as_rows table.old.items) × (length table.old.items ≤ room) × (room ≤ 256) }
-        ensures done { SwapsDone self.now.weights.now (as_sheet self.now.swaps.now) (stamps_of self.now.swaps.now) g (as_rows table.old.items) room (as_rows table.new.items) }
-        ensures room { MatchResult result (λ _. length table.new.items ≤ room) (λ _. room < length table.new.items) }
+    fn join_swaps(&self, g: u16, table: &mut Table) -> Result<(), NoRoom>
+        requires { Within self.now.weights.now (as_sheet self.now.swaps.now) (stamps_of self.now.swaps.now) g (as_rows table.old.items) × (length table.old.items ≤ self.now.room) }
+        ensures done { SwapsDone self.now.weights.now (as_sheet self.now.swaps.now) (stamps_of self.now.swaps.now) g (as_rows table.old.items) self.now.room (as_rows table.new.items) }
+        ensures room { MatchResult result (λ _. length table.new.items ≤ self.now.room) (λ _. self.now.room < length table.new.items) }
     {
         for swap in self.swaps {
             if swap.stamp == g {
                 joined(self.weights, table, swap.left, swap.right);
-                if room < table.len() {
+                if self.room < table.len() {
+                    return Err(NoRoom);
+                }
+            }
+        }
+        Ok(())
+    }
+
+    // The listed pairs that are due at grade g joined, as far as there is room.
+    // A loop of its own beside join_swaps: one for both would take the joining as a closure, and say of any closure what these two say of theirs.
+    fn join_pairs(&self, list: &[Pair], g: u16, table: &mut Table) -> Result<(), NoRoom>
+        requires listed { (sheet : List Swap) × (stamps : List ℕ) × Listing self.now.weights.now sheet stamps g list.now (as_rows table.old.items) }
+        requires has_room { length table.old.items ≤ self.now.room }
+        ensures done { PairsDone self.now.weights.now list.now g (as_rows table.old.items) self.now.room (as_rows table.new.items) }
+        ensures room { MatchResult result (λ _. length table.new.items ≤ self.now.room) (λ _. self.now.room < length table.new.items) }
+    {
+        for pair in list {
+            if pair.due == g {
+                join_pair(
+                    self.weights,
+                    usize::from(pair.first),
+                    usize::from(pair.second),
+                    table,
+                );
+                if self.room < table.len() {
                     return Err(NoRoom);
                 }
             }
@@ -134,26 +132,28 @@ impl Work<'_> {
         &self,
         g: u16,
         table: &mut Table,
-        room: usize,
         list: &mut ArrayVec<Pair, PAIRS>,
     ) -> Result<(), NoRoom>
+        ghost weights: { List ℕ }
+        requires weighed { weights ≡ self.now.weights.now }
         requires at_grade { ((w : Working self.now.bound self.now.sizes.now self.now.weights.now (as_sheet self.now.swaps.now) (stamps_of self.now.swaps.now)) × AtGrade w g (as_rows table.old.items)) × PairList self.now.bound self.now.sizes.now (as_rows table.old.items) (length (as_rows table.old.items)) list.old.items }
-        requires has_room { (1 ≤ g) × (g ≤ self.now.bound) × (length table.old.items ≤ room) × (room ≤ 256) }
-        ensures done { GradeDone self.now.bound self.now.sizes.now self.now.weights.now (as_sheet self.now.swaps.now) (stamps_of self.now.swaps.now) g (as_rows table.old.items) room (as_rows table.new.items) list.new.items }
-        ensures room { MatchResult result (λ _. length table.new.items ≤ room) (λ _. room < length table.new.items) }
+        requires has_room { (1 ≤ g) × (g ≤ self.now.bound) × (length table.old.items ≤ self.now.room) }
+        ensures done { GradeDone self.now.bound self.now.sizes.now self.now.weights.now (as_sheet self.now.swaps.now) (stamps_of self.now.swaps.now) g (as_rows table.old.items) self.now.room (as_rows table.new.items) list.new.items }
+        ensures room { MatchResult result (λ _. length table.new.items ≤ self.now.room) (λ _. self.now.room < length table.new.items) }
     {
         let base = table.len();
-        self.join_swaps(g, table, room)?;
-        join_pairs(self.weights, list, g, table, room)?;
+        self.join_swaps(g, table)?;
+        self.join_pairs(list, g, table)?;
         let rows = table.as_mut_slice();
-        settle_tails(self.weights, rows, base);
+        settle_tails(rows, base);
         rack::sort(rows, base);
         pairs::enter_all(self.sizes, self.bound as u32, rows, base, list);
         Ok(())
     }
 }
 
-// Every grade up to the bound at which anything is due, from an empty table. It has more rows than the room where there is none for them all.
+// Every grade up to the bound at which anything is due, from an empty table. It has more rows than the room where there is none for them
+// all: its length tells, as `AllDone` says.
 pub fn all_grades(
     sizes: &[u16; 12],
     weights: &[u32; 12],
@@ -170,13 +170,14 @@ pub fn all_grades(
         weights,
         bound,
         swaps,
+        room,
     };
     table.clear();
     let past = bound + 1;
     let mut list = ArrayVec::new();
     let mut g = pairs::next_above(swaps.iter().map(|swap| swap.stamp), 0, past);
     while g < past {
-        if work.one_grade(g as u16, table, room, &mut list).is_err() {
+        if work.one_grade(g as u16, table, &mut list).is_err() {
             return;
         }
         let limit = pairs::next_above(list.iter().map(|pair| pair.due), g, past);

@@ -45,8 +45,18 @@ module _ (T : List (RowOf (Load 12))) (U : List Row) (e : plain_table T ≡ U) w
   pub table_long : length T ≡ length U
   table_long = sym (length-map T plain) ∙ ap length e
 
+  -- whatever is taken to stand past the end
+  pub row_by : (d : RowOf (Load 12)) (i : ℕ) → plain (get_or T i d) ≡ get_or U i (plain d)
+  row_by d i = sym (get_or-map plain T i d) ∙ ap (λ (V : List Row). get_or V i (plain d)) e
+
+  pub head_by : (d : RowOf (Load 12)) (i : ℕ) → (get_or T i d).head.0 ≡ (get_or U i (plain d)).head
+  head_by d i = ap (λ (a : Row). a.head) (row_by d i)
+
+  pub tail_by : (d : RowOf (Load 12)) (i : ℕ) → (get_or T i d).tail.0 ≡ (get_or U i (plain d)).tail
+  tail_by d i = ap (λ (a : Row). a.tail) (row_by d i)
+
   pub row_is : (i : ℕ) → plain (get_or T i no_row) ≡ get_or U i (plain no_row)
-  row_is i = sym (get_or-map plain T i no_row) ∙ ap (λ (V : List Row). get_or V i (plain no_row)) e
+  row_is i = row_by no_row i
 
   pub head_is : (i : ℕ) → (get_or T i no_row).head.0 ≡ head_at U i
   head_is i = ap (λ (a : Row). a.head) (row_is i)
@@ -78,8 +88,17 @@ module _ {bound : ℕ} {sizes : List ℕ} {sheet : List Swap} (weights : List �
   pub sheet_long : length SheetOf ≡ length sheet
   sheet_long = sym (length-map SheetOf plain_swap) ∙ ap length sheet_is
 
+  pub swap_by : (e : Load 12 × Load 12) (k : ℕ) → plain_swap (get_or SheetOf k e) ≡ get_or sheet k (plain_swap e)
+  swap_by e k = sym (get_or-map plain_swap SheetOf k e) ∙ ap (λ (U : List Swap). get_or U k (plain_swap e)) sheet_is
+
+  pub left_by : (e : Load 12 × Load 12) (k : ℕ) → (get_or SheetOf k e).0.0 ≡ (get_or sheet k (plain_swap e)).left
+  left_by e k = ap (λ (a : Swap). a.left) (swap_by e k)
+
+  pub right_by : (e : Load 12 × Load 12) (k : ℕ) → (get_or SheetOf k e).1.0 ≡ (get_or sheet k (plain_swap e)).right
+  right_by e k = ap (λ (a : Swap). a.right) (swap_by e k)
+
   pub swap_is : (k : ℕ) → plain_swap (get_or SheetOf k no_swap) ≡ swap_of sheet k
-  swap_is k = sym (get_or-map plain_swap SheetOf k no_swap) ∙ ap (λ (U : List Swap). get_or U k (plain_swap no_swap)) sheet_is
+  swap_is k = swap_by no_swap k
 
   pub left_is : (k : ℕ) → (get_or SheetOf k no_swap).0.0 ≡ (swap_of sheet k).left
   left_is k = ap (λ (a : Swap). a.left) (swap_is k)

@@ -1,7 +1,8 @@
-// Loads in lent slices, and the rows of flat tables: each function decides or computes one definition.
+// Loads in lent slices, and the rows of flat tables: each function decides or computes one definition. The width n and the flat table go
+// side by side, as C lends them and `left_at n flat r` takes them.
 #![tactic(auto)]
 
-ghost use Rattle.std.specs.Prelude.{◌≡◌, ◌+◌, ◌*◌, ◌≤◌, ◌<◌, length, map, IfSome, unwrap_or, ◌^◌, ℤ, pos, nat_abs};
+ghost use Rattle.std.specs.Prelude.{◌≡◌, ◌+◌, ◌*◌, ◌≤◌, ◌<◌, length, map, IfSome, unwrap_or, ◌^◌, ℤ, pos, nat_abs, Ok};
 ghost use Rattle.terms.specs.Decides.{Decides};
 ghost use Rattle.terms.specs.Load.{Fits, grade};
 ghost use Rattle.terms.specs.Order.{cost};
@@ -10,9 +11,11 @@ ghost use Rattle.terms.specs.Flat.{left_at, right_at};
 ghost use Rattle.terms.specs.Limits.{All, KindsFine, SizeFine, most_kinds};
 ghost use Rattle.laws.specs.Load.{UpTo};
 ghost use Rattle.loads.specs.Lent.{Lent};
+ghost use Rattle.terms.specs.Outcome.{Outcome};
 ghost use Rattle.loads.specs.FirstRow.{FirstRow};
+ghost use Rattle.loads.specs.KitTests.{kit_tests};
 
-use terms::Kit;
+use terms::{Kit, Refusal, Refused};
 
 // Wide enough for the grade of any load: 12 times 65,535 times 65,535.
 pub type Grade = usize;
@@ -25,7 +28,8 @@ pub fn fits_in(h: &[u16], x: &[u16]) -> bool
     h.iter().zip(x).fold(true, |fits, (a, b)| fits & (a <= b))
 }
 
-// What one part of a kind counts for: its size, its cost, its weight. It is a signed number within 32 bits.
+// What one part of a kind counts for: its size, its cost, its weight. A trait of our own, since `Into<i64>` tells a generic sum neither
+// the number nor that it is below 2 to the 32.
 pub trait Measure: Copy {
     ghost value: { Self → ℤ };
 
@@ -96,7 +100,7 @@ pub fn right_of(n: usize, flat: &[u16], r: usize) -> &[u16]
     &flat[at..at + n]
 }
 
-// A row of a flat table: its two sides, as parts from the middle of the table.
+// A row of a flat table: its two sides, as parts from the middle of the table. Tables are lent flat; `rack::Row` holds its counts itself.
 #[derive(Clone, Copy)]
 pub struct Row<'a> {
     pub head: &'a [u16],
@@ -115,7 +119,7 @@ pub fn row_of(n: usize, flat: &[u16], r: usize) -> Row<'_>
     }
 }
 
-// h taken out of x and t put in, in place.
+// h taken out of x and t put in, in place. By place: after `iter_mut().zip(..)` the check knows nothing of what was written.
 pub fn exchange_in(h: &[u16], t: &[u16], x: &mut [u16])
     requires { Fits h.now x.old × (length t.now ≡ length x.old) × UpTo 65535 (exchange h.now t.now x.old) }
     ensures { x.new ≡ exchange h.now t.now x.old }
@@ -139,6 +143,19 @@ pub fn in_range(number: usize, most: usize) -> bool
     ensures { Decides ((1 ≤ number) × (number ≤ most)) result }
 {
     (1..=most).contains(&number)
+}
+
+// The first test of a kit's numbers that fails, as the refusal at a place: 0, or the line of the kit in a text.
+pub fn kit_tested(kit: Kit, place: usize) -> Result<(), Refused>
+    ensures { Outcome (λ r. r ≡ Ok tt) (kit_tests kit.kinds kit.bound place) result }
+{
+    if !in_range(kit.kinds, Kit::KINDS) {
+        return Err(Refusal::Kinds.at(place));
+    }
+    if !in_range(kit.bound, Kit::BOUND) {
+        return Err(Refusal::Bound.at(place));
+    }
+    Ok(())
 }
 
 // Whether every size is in range.

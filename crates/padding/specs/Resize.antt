@@ -2,7 +2,7 @@
 --     resize_more       one row more
 --     resize_next       and that of a table
 --     table_resized     the rows read again
---     swaps_widened     rows, widened, read as swaps
+--     swaps_widened     a flat sheet, widened, read as swaps
 --     cut_back          rows of n counts a side, widened and cut back, are the rows
 -- Assumes nothing.
 use Rattle.std.specs.Prelude.{ℕ, ◌+◌, ◌*◌, ◌-◌, ◌≤◌, ◌<◌, ◌≡◌, refl, List, [], ◌∷◌, ◌++◌, map, length, get_or, take, drop}
@@ -11,10 +11,10 @@ use Rattle.std.proofs.lemmas.List.{map-append, length-replicate, length-map, tak
 use Rattle.terms.specs.Load.{zeros}
 use Rattle.terms.specs.Limits.{All, most_kinds}
 use Rattle.terms.specs.Table.{Row}
-use Rattle.terms.specs.Flat.{table_of, laid, filled}
+use Rattle.terms.specs.Flat.{numbered, swap_at, table_of, laid, filled}
 use Rattle.laws.specs.Load.{all_members}
 use Rattle.laws.specs.Flat.{Sides, table_sided}
-use Rattle.laws.specs.Laid.{side, over, filled_more, table_laid, as_swap, row_same}
+use Rattle.laws.specs.Laid.{side, over, filled_more, table_laid, as_swap, swaps_rows, row_same}
 use Rattle.padding.specs.Widen.{widen, widen_swap, widen_row, resize, resize_row}
 
 -- ---- one side
@@ -103,6 +103,13 @@ cut_back n (a ∷ T) few w =
     ap₂ ◌∷◌ (row_same (resize_cuts n a.head few w.0.of_head) (resize_cuts n a.tail few w.0.of_tail)) (cut_back n T few w.1)
 
 -- rows widened, read as swaps
-pub swaps_widened : (n : ℕ) (T : List Row) → map as_swap (map (widen_row n) T) ≡ map (widen_swap n) (map as_swap T)
-swaps_widened n [] = refl
-swaps_widened n (a ∷ T) = ap (λ l. widen_swap n (as_swap a) ∷ l) (swaps_widened n T)
+as_swaps : (n : ℕ) (T : List Row) → map as_swap (map (widen_row n) T) ≡ map (widen_swap n) (map as_swap T)
+as_swaps n [] = refl
+as_swaps n (a ∷ T) = ap (λ l. widen_swap n (as_swap a) ∷ l) (as_swaps n T)
+
+pub swaps_widened : (n k : ℕ) (flat out : List ℕ) → table_of most_kinds out k ≡ map (widen_row n) (table_of n flat k) → numbered (swap_at most_kinds out) 0 k ≡ map (widen_swap n) (numbered (swap_at n flat) 0 k)
+swaps_widened n k flat out e =
+    swaps_rows most_kinds out k
+    ∙ ap (map as_swap) e
+    ∙ as_swaps n (table_of n flat k)
+    ∙ ap (map (widen_swap n)) (sym (swaps_rows n flat k))

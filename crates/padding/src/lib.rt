@@ -58,19 +58,20 @@ pub fn widen(load: &[u16]) -> [u16; 12]
     followed(load, 0)
 }
 
-// The first n counts of each side of a row written as row r of a rule table.
+// The first n counts of each side of a row written as row r of a rule table: all 12 where n is more.
 fn lay_row(n: usize, row: &Row, r: usize, rules: &mut [u16])
-    requires { (n ≤ most_kinds) × (r * (2 * n) + 2 * n ≤ length rules.old) }
+    requires { r * (2 * n) + 2 * n ≤ length rules.old }
     ensures { rules.new ≡ row_over n (as_row row.now) r rules.old }
 {
+    let count = n.min(Kit::KINDS);
     let at = r * (2 * n);
-    rules[at..at + n].copy_from_slice(&row.head[..n]);
-    rules[at + n..at + 2 * n].copy_from_slice(&row.tail[..n]);
+    rules[at..at + count].copy_from_slice(&row.head[..count]);
+    rules[at + n..at + n + count].copy_from_slice(&row.tail[..count]);
 }
 
-// Rows cut back to n counts a side, laid in a rule table of zeros.
+// Rows laid with n counts a side in a rule table of zeros: cut back to n counts, and 0 after the 12 where n is more.
 pub fn lay_rows(n: usize, table: &[Row], rules: &mut [u16])
-    requires { (n ≤ most_kinds) × (length table.now * (2 * n) ≤ length rules.old) × (rules.old ≡ zeros (length rules.old)) }
+    requires { (length table.now * (2 * n) ≤ length rules.old) × (rules.old ≡ zeros (length rules.old)) }
     ensures { rules.new ≡ filled (length rules.old) (map (resize_row n) (as_rows table.now)) }
 {
     for (r, row) in table.iter().enumerate() {

@@ -1,13 +1,15 @@
--- What the loops over twelve counts keep, and the head of a row that the program holds.
+-- What the loops over twelve counts keep, and the heads of rows that the program holds.
 -- Assumes nothing.
-use Rattle.std.specs.Prelude.{ℕ, ◌+◌, ◌*◌, ◌≤◌, ◌<◌, ◌≡◌, Bool, true, List, length, get_or}
-use Rattle.std.proofs.Common.{subst}
+use Rattle.std.specs.Prelude.{ℕ, ◌+◌, ◌*◌, ◌≤◌, ◌<◌, ◌≡◌, Bool, true, List, length, get_or, take}
+use Rattle.std.proofs.Common.{ap, ap₂, sym, subst, ◌∙◌, arith, length-take}
+use Rattle.std.proofs.lemmas.List.{get_or-take, length-map}
 use Rattle.terms.specs.Load.{Fits, grade}
 use Rattle.laws.specs.Load.{UpTo, join}
-use Rattle.rack.specs.Rows.{as_rows, head_at}
+use Rattle.rack.specs.Rows.{as_row, as_rows, head_at}
 use Rattle.rack.specs.declared.Row.{Row as Held}
 use Rattle.rack.proofs.Held.{held_at}
 use Rattle.terms.specs.Table.{Row}
+use Rattle.pairs.specs.Pairs.{common}
 
 -- ---- the loop that sums the grade: what is left of the three lists
 
@@ -26,7 +28,23 @@ pub record Covering (ps xs ys p j : List ℕ) (ok : Bool) : Type 0 where
   pub onward : ok ≡ true → Fits ps (join xs ys) → Fits p j
   pub back : Fits p j → (ok ≡ true) × Fits ps (join xs ys)
 
--- ---- a row that the program holds
+-- ---- the rows that the program holds, the last of the first n + 1 and those below it
 
-pub held_small : (T : List Held) (r : ℕ) (d : Held) → r < length T → UpTo 1000 (head_at (as_rows T) r) → UpTo 1000 (get_or T r d).head
-held_small T r d l u = subst (λ (a : Row). UpTo 1000 a.head) (held_at T r d l) u
+module _ (T : List Held) (n : ℕ) (d : Held) (l : n + 1 ≤ length (as_rows T)) where
+  last_head : (get_or T n d).head ≡ head_at (as_rows T) n
+  last_head = ap (λ (a : Row). a.head) (sym (held_at T n d (omega (arith, l, length-map T as_row))))
+
+  low_head : (m i : ℕ) → m ≤ n → i < length (take m T) → (get_or (take m T) i d).head ≡ head_at (as_rows T) i
+  low_head m i f h =
+      ap (λ (a : Held). a.head) (get_or-take m T i d (omega (arith, h, length-take m T)))
+      ∙ ap (λ (a : Row). a.head) (sym (held_at T i d (omega (arith, h, length-take m T))))
+
+  pub common_held : (m i : ℕ) → m ≤ n → i < length (take m T) → join (get_or (take m T) i d).head (get_or T n d).head ≡ common (as_rows T) i n
+  common_held m i f h = ap₂ join (low_head m i f h) last_head
+
+  module _ (small : (r : ℕ) → r < n + 1 → UpTo 1000 (head_at (as_rows T) r)) where
+    pub last_small : UpTo 1000 (get_or T n d).head
+    last_small = subst (UpTo 1000) (sym last_head) (small n (omega arith))
+
+    pub low_small : (m i : ℕ) → m ≤ n → i < length (take m T) → UpTo 1000 (get_or (take m T) i d).head
+    low_small m i f h = subst (UpTo 1000) (sym (low_head m i f h)) (small i (omega (arith, f, h, length-take m T)))

@@ -43,7 +43,7 @@ pub fn common_grade(sizes: &[u16; 12], a: &[u16; 12], b: &[u16; 12]) -> u32
     sum
 }
 
-// Whether p fits in the least load that holds a and b. In the least that holds p and b it does.
+// Whether p fits in the least load that holds a and b, which is never written down: to call loads::fits_in it would be. In the least that holds p and b it does.
 pub fn covers(p: &[u16; 12], a: &[u16; 12], b: &[u16; 12]) -> bool
     ensures tested { Decides (Fits p.now (join a.now b.now)) result }
     ensures own { Fits p.now (join p.now b.now) }
@@ -53,14 +53,6 @@ pub fn covers(p: &[u16; 12], a: &[u16; 12], b: &[u16; 12]) -> bool
         ok &= count <= x.max(y);
     }
     ok
-}
-
-// The grade of the least load that holds the heads of rows i and j.
-fn pair_grade(sizes: &[u16; 12], table: &[Row], i: usize, j: usize) -> u32
-    requires { UpTo 1000 sizes.now × (i ≤ j) × (j < length table.now) × ((r : ℕ) → r ≤ j → UpTo 1000 (head_at (as_rows table.now) r)) }
-    ensures { result ≡ grade sizes.now (common (as_rows table.now) i j) }
-{
-    common_grade(sizes, &table[i].head, &table[j].head)
 }
 
 // Whether row i lies below row j, and row p is a pivot of the two: its head fits in the least load that holds their heads.
@@ -78,8 +70,8 @@ fn candidates(sizes: &[u16; 12], bound: u32, table: &[Row], j: usize) -> ArrayVe
     ensures { Picked bound sizes.now (as_rows table.now) j j result.items }
 {
     let mut picked = ArrayVec::new();
-    for i in 0..j {
-        let grade = pair_grade(sizes, table, i, j);
+    for (i, row) in table[..j].iter().enumerate() {
+        let grade = common_grade(sizes, &row.head, &table[j].head);
         if grade <= bound {
             picked.push(Candidate {
                 row: i as u8,
@@ -154,7 +146,7 @@ pub fn next_above<I: Iterator<Item = u16> + Drop>(grades: I, g: usize, limit: us
     let mut best = limit;
     for due in grades {
         let grade = usize::from(due);
-        // with no jump in it the loop takes several grades at a time
+        // a choice of two numbers, and no jump
         let taken = if g < grade { grade } else { limit };
         best = best.min(taken);
     }

@@ -1,6 +1,6 @@
 -- What the functions over one line answer, from the row that was read. Assumes nothing.
-use Rattle.std.specs.Prelude.{ℕ, zero, suc, ◌+◌, ◌-◌, ◌*◌, min, ◌≤◌, ◌<◌, ◌≡◌, List, [], ◌∷◌, ◌++◌, Bool, true, false, cond, not, ltb, eqb, length, get_or, take, drop, Result, Ok, Err, ⊤, refl}
-use Rattle.std.proofs.Common.{ap, sym, ◌∙◌, arith, lt-ltb, le-ltb, ltb-true, eq-eqb, eqb-true, take_at, drop_at, drop_of_length-le, length-drop, length-take-le, append-nil, take-take, drop-drop, mul-le-mul_right, add-mul, one-mul, zero-add, suc-add}
+use Rattle.std.specs.Prelude.{ℕ, zero, suc, ◌+◌, ◌-◌, ◌*◌, min, ◌≤◌, ◌<◌, ◌≡◌, List, [], ◌∷◌, ◌++◌, Bool, true, false, cond, not, ◌&&◌, leb, ltb, eqb, length, get_or, take, drop, Result, Ok, Err, ⊤, refl}
+use Rattle.std.proofs.Common.{ap, sym, ◌∙◌, inl, inr, arith, le-leb, leb-true, lt-ltb, le-ltb, ltb-true, eq-eqb, eqb-true, take_at, drop_at, drop_of_length-le, length-drop, length-take-le, append-nil, take-take, drop-drop, mul-le-mul_right, add-mul, one-mul, zero-add, suc-add}
 use Rattle.std.proofs.Math.ListN.{get_or-map}
 use Rattle.std.proofs.Math.Seq.{take-nil}
 use Rattle.std.proofs.lemmas.Slice.{take-put_mid_below}
@@ -10,7 +10,9 @@ use Rattle.terms.specs.declared.Refusal.{Refusal}
 use Rattle.terms.specs.declared.Refusal.TheVariants.{Kinds, Bound, Length, SameSides, UnequalGrades, BigCount}
 use Rattle.terms.specs.declared.Refused.{Refused}
 use Rattle.terms.specs.Answers.{refuse}
-use Rattle.terms.specs.Decides.{Decides}
+use Rattle.terms.specs.Outcome.{Outcome}
+use Rattle.loads.specs.KitTests.{kit_tests}
+use Rattle.sides.specs.Fine.{side_tests}
 use Rattle.terms.specs.Load.{grade}
 use Rattle.terms.specs.Flat.{left_at, right_at}
 use Rattle.texts.specs.Number.{number_of, cap}
@@ -55,6 +57,27 @@ module _ (ps : Pieces) (row : List ℕ) (q : Pieces) (e : read_line 1 (shaped 0 
       go true true f g = rw (f refl, g refl)
       go true false f g = refl
       go false u f g = refl
+
+-- what a test answers of what was read: that, where it passes
+abbrev pub judged_got : {A : Type 0} → Result ⊤ Refused → A → Got A
+judged_got (Ok u) r = fine r
+judged_got (Err refused) r = wrong refused.why refused.place
+
+fine_within : (most v : ℕ) → (1 ≤ v) × (v ≤ most) → within 1 most v ≡ true
+fine_within most v h = rw (le-leb 1 v h.0, le-leb v most h.1)
+
+not_within : (most v : ℕ) → ((1 ≤ v) × (v ≤ most) → ⊥) → within 1 most v ≡ false
+not_within most v h = go (leb 1 v) refl (leb v most) refl
+  where
+    go : (t : Bool) → leb 1 v ≡ t → (u : Bool) → leb v most ≡ u → (t && u) ≡ false
+    go true e true f = absurd (h (leb-true 1 v e, leb-true v most f))
+    go true e false f = refl
+    go false e u f = refl
+
+pub kit_judged : (n b : ℕ) (q : Pieces) (r : Result ⊤ Refused) → Outcome (λ r. r ≡ Ok tt) (kit_tests n b 1) r → kit_of n b q ≡ judged_got r (record { kinds = n; bound = b }, q)
+kit_judged n b q r (inl f) = rw (not_within 12 n f.0, f.1)
+kit_judged n b q r (inr (k, inl f)) = rw (fine_within 12 n k, not_within 1000 b f.0, f.1)
+kit_judged n b q r (inr (k, inr (c, d))) = rw (fine_within 12 n k, fine_within 1000 b c, d)
 
 -- ## Sizes and costs
 
@@ -137,34 +160,19 @@ same_is (a ∷ x) (b ∷ y) e = go (eqb a b) refl (same_is x y) e
     go true h ih e = let p = eqb-true a b h in let q = ih e in cc
     go false h ih e = cc
 
-decided : (P : Type 0) (u : Bool) → Decides P u → (t : Bool) → (t ≡ true → P) → (t ≡ false → P → ⊥) → u ≡ t
-decided P true d true f g = refl
-decided P true d false f g = absurd (g refl (d.holds refl))
-decided P false d true f g = absurd (d.fails refl (f refl))
-decided P false d false f g = refl
-
-module _ (line : ℕ) (sizes left right : List ℕ) (u : Bool) (d : Decides (left ≡ right → ⊥) u) where
-  unequal_not_same : (s : Bool) → same left right ≡ s → u ≡ not s
-  unequal_not_same true e = decided (left ≡ right → ⊥) u d false (λ z. cc) (λ z h. h (same_is left right e))
-  unequal_not_same false e = decided (left ≡ right → ⊥) u d true (λ z h. let q = ap (λ (l : List ℕ). same l right) h ∙ same_refl right in cc) (λ z. cc)
-
-  pub sides_same : u ≡ false → refuse SameSides line ≡ sides_step line sizes left right
-  sides_same h = go (same left right) (sym (unequal_not_same (same left right) refl) ∙ h)
-    where
-      go : (s : Bool) → not s ≡ false → refuse SameSides line ≡ cond {A = Result ⊤ Refused} s (refuse SameSides line) (cond (eqb (grade sizes left) (grade sizes right)) (Ok tt) (refuse UnequalGrades line))
-      go true e = refl
-      go false e = cc
-
-  module _ (h : u ≡ true) (v : Bool) (g : Decides (grade sizes left ≡ grade sizes right) v) where
-    even_is : eqb (grade sizes left) (grade sizes right) ≡ v
-    even_is = sym (decided (grade sizes left ≡ grade sizes right) v g (eqb (grade sizes left) (grade sizes right)) (λ e. eqb-true (grade sizes left) (grade sizes right) e) (λ e h. let q = eq-eqb (grade sizes left) (grade sizes right) h in cc))
-
-    pub sides_graded : cond {A = Result ⊤ Refused} v (Ok tt) (refuse UnequalGrades line) ≡ sides_step line sizes left right
-    sides_graded = rw even_is (go (same left right) (sym (unequal_not_same (same left right) refl) ∙ h))
-      where
-        go : (s : Bool) → not s ≡ true → cond {A = Result ⊤ Refused} v (Ok tt) (refuse UnequalGrades line) ≡ cond {A = Result ⊤ Refused} s (refuse SameSides line) (cond v (Ok tt) (refuse UnequalGrades line))
-        go true e = cc
-        go false e = refl
+-- the tests of a swap answer what its sides ask
+pub judged : (line : ℕ) (sizes left right : List ℕ) (r : Result ⊤ Refused) → Outcome (λ r. r ≡ Ok tt) (side_tests sizes (record { left = left; right = right }) line) r → r ≡ sides_step line sizes left right
+judged line sizes left right r o = go (same left right) refl (eqb (grade sizes left) (grade sizes right)) refl o
+  where
+    go : (s : Bool) → same left right ≡ s → (t : Bool) → eqb (grade sizes left) (grade sizes right) ≡ t → Outcome (λ r. r ≡ Ok tt) (side_tests sizes (record { left = left; right = right }) line) r
+        → r ≡ cond s (refuse SameSides line) (cond t (Ok tt) (refuse UnequalGrades line))
+    go true e t h (inl f) = f.1
+    go true e t h (inr (u, a)) = absurd (u (same_is left right e))
+    go false e t h (inl f) = absurd (f.0 (λ q. let z = ap (λ (l : List ℕ). same l right) q ∙ same_refl right in cc))
+    go false e true h (inr (u, inl f)) = absurd (f.0 (eqb-true (grade sizes left) (grade sizes right) h))
+    go false e false h (inr (u, inl f)) = f.1
+    go false e true h (inr (u, inr (v, d))) = d
+    go false e false h (inr (u, inr (v, d))) = let z = eq-eqb (grade sizes left) (grade sizes right) v in cc
 
 -- the two halves of a record of 2n counts
 drop_take : {A : Type 0} (n m : ℕ) (l : List A) → drop n (take (n + m) l) ≡ take m (drop n l)
@@ -182,10 +190,6 @@ halves n at l = (
     two n = omega arith
 
 -- what is asked of the sides is what judging answers
-abbrev pub judged_got : Result ⊤ Refused → List ℕ × Pieces → Got (List ℕ × Pieces)
-judged_got (Ok u) r = fine r
-judged_got (Err refused) r = wrong refused.why refused.place
-
 by_sides : (line : ℕ) (r : List ℕ × Pieces) (t u : Bool) → ask (not t) SameSides line (ask u UnequalGrades line (fine r)) ≡ judged_got (cond t (refuse SameSides line) (cond u (Ok tt) (refuse UnequalGrades line))) r
 by_sides line r true u = refl
 by_sides line r false true = refl

@@ -1,16 +1,15 @@
 // The lines of a sheet: the shape of a whole line first, then what its numbers may be. A line that is accepted is stored.
-// Each function takes a place of the text and hands the next one back, so that a refusal leaves no reader half moved.
+// Each function takes a place of the text and hands the next one back, as the definitions go: `split 10 (drop at text)`.
 #![tactic(auto)]
 
 ghost use Rattle.std.specs.Prelude.{ℕ, List, Bool, ◌≡◌, ◌+◌, ◌-◌, ◌*◌, ◌^◌, ◌≤◌, ◌<◌, length, take, drop};
 ghost use Rattle.terms.specs.Limits.{KindsFine, most_kinds, most_size, most_cost, most_swaps, most_count};
-ghost use Rattle.terms.specs.Flat.{left_at, right_at};
 ghost use Rattle.texts.specs.Number.{cap};
 ghost use Rattle.lines.specs.Fields.{number_of_word};
 ghost use Rattle.shapes.specs.Split.{fine, split, shaped, read_line};
 ghost use Rattle.shapes.specs.Rows.{code_of, numbers_got};
 ghost use Rattle.records.specs.Lines.{after, ask, all, kit_line, size_line, cost_line, counts_line, swap_line};
-ghost use Rattle.records.specs.Steps.{kit_got, ranged, Stored, Coded, cost_from, Recorded, sides_step};
+ghost use Rattle.records.specs.Steps.{kit_got, ranged, Stored, Coded, cost_from, Recorded};
 
 use lines::Word;
 use terms::{Kit, Refusal, Refused};
@@ -43,12 +42,7 @@ pub fn kit_line(text: &[u8]) -> Result<KitLine, Refused>
     let mut row = [0; 2];
     let next = due_line(text, 0, 1, Word::Kit, false, &mut row)?;
     let kit = Kit::of(row[0] as usize, row[1] as usize);
-    if !(1..=Kit::KINDS).contains(&kit.kinds) {
-        return Err(Refusal::Kinds.at(1));
-    }
-    if !(1..=Kit::BOUND).contains(&kit.bound) {
-        return Err(Refusal::Bound.at(1));
-    }
+    loads::kit_tested(kit, 1)?;
     Ok(KitLine { kit, next })
 }
 
@@ -99,11 +93,9 @@ fn numbers_line<T: Copy, F: Fn(u32) -> Option<T>>(
 fn size_from(number: u32) -> Option<u16>
     ensures { result ≡ ranged (λ v. v) 1 most_size number }
 {
-    if (1..=Kit::SIZE as u32).contains(&number) {
-        Some(number as u16)
-    } else {
-        None
-    }
+    u16::try_from(number)
+        .ok()
+        .filter(|size| (1..=Kit::SIZE).contains(size))
 }
 
 // Line 2: a size for each kind.
@@ -128,11 +120,9 @@ fn cost_from(code: u32) -> Option<i32>
     ensures { result ≡ ranged cost_from (cap - most_cost) (cap + most_cost) code }
 {
     const MOST: u32 = Kit::COST as u32;
-    if (texts::CAP - MOST..=texts::CAP + MOST).contains(&code) {
-        Some(code as i32 - texts::CAP as i32)
-    } else {
-        None
-    }
+    (texts::CAP - MOST..=texts::CAP + MOST)
+        .contains(&code)
+        .then(|| code as i32 - texts::CAP as i32)
 }
 
 // Line 3: a cost for each kind, which may be negative.
@@ -159,7 +149,8 @@ fn count_from(number: u32) -> Option<u16>
     u16::try_from(number).ok()
 }
 
-// The counts of a swap or of a load, where `used` of `room` records of `width` counts stand already.
+// The counts of a swap or of a load, where `used` of `room` records of `width` counts stand already: a lent buffer does not know how much
+// of it is in use.
 pub fn counts_line(
     text: &[u8],
     at: usize,
@@ -187,36 +178,22 @@ pub fn counts_line(
     Ok(Some(next))
 }
 
-// Whether the swap that was just stored may stand.
-fn judged(line: usize, n: usize, sizes: &[u16], used: usize, swaps: &[u16]) -> Result<(), Refused>
-    requires { KindsFine n × (length sizes.now ≡ n) × (used * (2 * n) + 2 * n ≤ length swaps.now) }
-    ensures { result ≡ sides_step line sizes.now (left_at n swaps.now used) (right_at n swaps.now used) }
-{
-    if !sides::unequal(n, swaps, used) {
-        return Err(Refusal::SameSides.at(line));
-    }
-    if !sides::even(n, sizes, swaps, used) {
-        return Err(Refusal::UnequalGrades.at(line));
-    }
-    Ok(())
-}
-
 // The line of a swap: its sides differ, and have one grade.
 pub fn swap_line(
     text: &[u8],
     at: usize,
     line: usize,
-    n: usize,
     sizes: &[u16],
     used: usize,
     swaps: &mut [u16],
 ) -> Result<Option<usize>, Refused>
-    requires { KindsFine n × (length sizes.now ≡ n) × (used ≤ most_swaps) × (most_swaps * (2 * n) ≤ length swaps.old) }
-    ensures { Recorded line 3 (2 * n) used at text.now swaps.old (swap_line line n sizes.now used (split 10 (drop at text.now))) result swaps.new }
+    requires { KindsFine (length sizes.now) × (used ≤ most_swaps) × (most_swaps * (2 * length sizes.now) ≤ length swaps.old) }
+    ensures { Recorded line 3 (2 * length sizes.now) used at text.now swaps.old (swap_line line (length sizes.now) sizes.now used (split 10 (drop at text.now))) result swaps.new }
 {
-    let Some(next) = counts_line(text, at, line, Word::Swap, 2 * n, used, Kit::SWAPS, swaps)? else {
+    let width = 2 * sizes.len();
+    let Some(next) = counts_line(text, at, line, Word::Swap, width, used, Kit::SWAPS, swaps)? else {
         return Ok(None);
     };
-    judged(line, n, sizes, used, swaps)?;
+    sides::tested(sizes, swaps, used, line)?;
     Ok(Some(next))
 }

@@ -1,6 +1,7 @@
 -- A flat list of loads of n counts, load by load: what is left from load i on. Assumes nothing.
-use Rattle.std.proofs.Common.{ℕ, suc, zero, ◌+◌, ◌*◌, ◌<◌, ◌≤◌, ◌≡◌, sym, ap, ◌∙◌, List, ◌++◌, length, take, drop, length-drop, drop-drop, take_at, drop_at, arith}
-use native.Mathlib.Nat.{mul-le-mul_right, suc-mul}
+use Rattle.std.proofs.Common.{ℕ, ◌+◌, ◌*◌, ◌/◌, ◌<◌, ◌≤◌, ◌≡◌, sym, ap, ◌∙◌, List, ◌++◌, length, take, drop, length-append, length-drop, drop-drop, take_at, drop_at, arith}
+use Rattle.std.proofs.lemmas.Nat.{le-div, div_below}
+use native.Mathlib.Nat.{suc-mul}
 use Rattle.report.specs.Report.{load_at}
 
 module _ (n i : ℕ) (loads x rest : List ℕ) (left : drop (i * n) loads ≡ x ++ rest) (long : length x ≡ n) where
@@ -14,9 +15,12 @@ module _ (n i : ℕ) (loads x rest : List ℕ) (left : drop (i * n) loads ≡ x 
       let e : (i + 1) * n ≡ i * n + n = omega (arith, suc-mul i n) in
       sym (ap (λ (k : ℕ). drop k loads) e ∙ sym (drop-drop n (i * n) loads) ∙ ap (drop n) left ∙ drop_at x rest n long)
 
--- where none of `more` further loads is left, there are none
-pub at_end : (n i more count : ℕ) (loads : List ℕ) → i + more ≡ count → count * n ≤ length loads → (0 < more → length (drop (i * n) loads) < n) → i ≡ count
-at_end n i zero count loads e h short = omega (arith, e)
-at_end n i (suc more) count loads e h short =
-    let l : i < count = omega (arith, e) in
-    absurd (omega (arith, mul-le-mul_right n l, suc-mul i n, h, short (omega arith), length-drop (i * n) loads))
+  -- so load i is one of those that the list holds
+  pub in_count : 1 ≤ n → i + 1 ≤ length loads / n
+  in_count some =
+      le-div (i + 1) (length loads) n some (omega (arith, suc-mul i n, ap length left, length-append x rest, length-drop (i * n) loads, long))
+
+-- where less than a load is left, all are read
+pub at_end : (n i : ℕ) (loads : List ℕ) → 1 ≤ n → i ≤ length loads / n → length (drop (i * n) loads) < n → i ≡ length loads / n
+at_end n i loads some within short =
+    omega (arith, within, div_below (length loads) n (i + 1) some (omega (arith, short, suc-mul i n, length-drop (i * n) loads)))

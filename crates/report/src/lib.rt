@@ -1,7 +1,7 @@
 // The lines of a rule table, and the lines of loads that are settled by it.
 #![tactic(auto)]
 
-ghost use Rattle.std.specs.Prelude.{◌+◌, ◌*◌, ◌^◌, ◌<◌, ◌≤◌, ◌≡◌, length};
+ghost use Rattle.std.specs.Prelude.{◌+◌, ◌*◌, ◌/◌, ◌^◌, ◌<◌, ◌≤◌, ◌≡◌, length};
 ghost use Rattle.arrayvec.specs.ArrayVec.{array_vec_len};
 ghost use Rattle.terms.specs.Flat.{row_at};
 ghost use Rattle.print.specs.Lines.{Stored};
@@ -12,6 +12,7 @@ use settle::Table;
 use terms::{Kit, Refusal};
 
 // The line of row r.
+#[tactic(auto, using(crate::proofs::Rows::line_of_row))]
 fn rule_at<const N: usize>(out: &mut ArrayVec<u8, N>, table: &Table<'_>, r: usize)
     requires lengths { Holds table.now (r + 1) }
     requires has_room { array_vec_len out.old + row_most ≤ N }
@@ -19,13 +20,12 @@ fn rule_at<const N: usize>(out: &mut ArrayVec<u8, N>, table: &Table<'_>, r: usiz
     ensures upper_bound { array_vec_len out.new ≤ array_vec_len out.old + row_most }
 {
     let kinds = table.kit.kinds;
-    let head = loads::left_of(kinds, table.rules, r);
-    let grade = loads::grade_of(table.sizes, head);
+    let grade = loads::grade_of(table.sizes, loads::left_of(kinds, table.rules, r));
     let from = r * (2 * kinds);
     print::rule_line(out, grade, &table.rules[from..from + 2 * kinds]);
 }
 
-// The lines of the rows in use.
+// The lines of the rows in use. A row is found by its number: a kit of no kinds is allowed here, for which `chunks_exact` would panic.
 pub fn rule_lines<const N: usize>(out: &mut ArrayVec<u8, N>, table: &Table<'_>)
     requires lengths { Holds table.now table.now.rows }
     requires has_room { array_vec_len out.old + table.now.rows * row_most ≤ N }
@@ -60,21 +60,19 @@ fn load_line<const N: usize>(
     print::done_line(out, settled);
 }
 
-// The lines of `count` loads, of which the first stands on the given line of the sheet.
+// The lines of loads, of which the first stands on the given line of the sheet.
 pub fn load_lines<const N: usize>(
     out: &mut ArrayVec<u8, N>,
     table: &Table<'_>,
     loads: &[u16],
-    count: usize,
     first: usize,
 )
-    requires ready { ReadyTable table.now × (count * table.now.kit.kinds ≤ length loads.now) × (first + count < 2 ^ 64) }
-    requires has_room { array_vec_len out.old + count * load_most ≤ N }
-    ensures written { Written (LinesBy table.now loads.now first count) out.old.items out.new.items }
-    ensures upper_bound { array_vec_len out.new ≤ array_vec_len out.old + count * load_most }
+    requires ready { ReadyTable table.now × (first + length loads.now / table.now.kit.kinds < 2 ^ 64) }
+    requires has_room { array_vec_len out.old + (length loads.now / table.now.kit.kinds) * load_most ≤ N }
+    ensures written { Written (LinesBy table.now loads.now first (length loads.now / table.now.kit.kinds)) out.old.items out.new.items }
+    ensures upper_bound { array_vec_len out.new ≤ array_vec_len out.old + (length loads.now / table.now.kit.kinds) * load_most }
 {
-    let loads = loads.chunks_exact(table.kit.kinds).take(count);
-    for (i, load) in loads.enumerate() {
+    for (i, load) in loads.chunks_exact(table.kit.kinds).enumerate() {
         load_line(out, table, load, first + i);
     }
 }

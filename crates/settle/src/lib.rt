@@ -59,15 +59,11 @@ impl Table<'_> {
     }
 
     // The first test that fails, as the refusal. It only reads.
+    #[tactic(auto, using(loads::specs::KitTests::kit_passed, loads::specs::KitTests::kit_stops))]
     pub fn tested(&self, load: &[u16]) -> Result<(), Refused>
         ensures { Outcome (λ o. o.0 ≡ Ok tt) (tests self.now.kit.kinds self.now.kit.bound self.now.sizes.now self.now.costs.now self.now.rules.now self.now.rows load.now) (result, load.now) }
     {
-        if !loads::in_range(self.kit.kinds, Kit::KINDS) {
-            return Err(Refusal::Kinds.at(0));
-        }
-        if !loads::in_range(self.kit.bound, Kit::BOUND) {
-            return Err(Refusal::Bound.at(0));
-        }
+        loads::kit_tested(self.kit, 0)?;
         if !self.lengths_fine(load) {
             return Err(Refusal::Length.at(0));
         }

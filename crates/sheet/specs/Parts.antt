@@ -14,12 +14,12 @@ abbrev pub swaps_got : ℕ → std.Result Block Refused → List ℕ → List �
 swaps_got n (Ok block) table text = loads_after n block.count (take (block.count * (2 * n)) table) (split 10 (drop block.next text))
 swaps_got n (Err refused) table text = wrong refused.why refused.place
 
--- the load lines are read
-abbrev pub loads_got : ℕ → std.Result Block Refused → List ℕ → Got Records
-loads_got n (Ok block) table = fine (record { number = block.count; counts = take (block.count * n) table })
+-- the load lines are read, so many
+abbrev pub loads_got : ℕ → std.Result ℕ Refused → List ℕ → Got Records
+loads_got n (Ok count) table = fine (record { number = count; counts = take (count * n) table })
 loads_got n (Err refused) table = wrong refused.why refused.place
 
--- no more records than there is room for
+-- no more swaps than there is room for
 abbrev pub Within : ℕ → std.Result Block Refused → Type 0
 Within room (Ok block) = block.count ≤ room
 Within room (Err refused) = Unit {0}

@@ -1,7 +1,7 @@
 // A sheet read from its text into lent buffers: one pass over the text, line by line, and one over each buffer at the end.
 #![tactic(auto)]
 
-ghost use Rattle.std.specs.Prelude.{◌≡◌, [], ◌++◌, ◌+◌, ◌-◌, ◌*◌, ◌≤◌, pos, length, take, drop, replicate};
+ghost use Rattle.std.specs.Prelude.{◌≡◌, [], ◌+◌, ◌*◌, ◌≤◌, IfOk, length, take, drop};
 ghost use Rattle.terms.specs.Limits.{KindsFine, most_kinds, most_swaps, most_loads};
 ghost use Rattle.shapes.specs.Split.{split};
 ghost use Rattle.sheet.specs.Sheet.{swap_room, load_room, load_lines, swap_lines, sheet_of, Reads};
@@ -33,21 +33,15 @@ struct Rest {
     loads: usize,
 }
 
-// The swap lines, up to the first line of another word. The walk goes by the places that the lines hand back, so no index is counted.
-fn read_swaps(
-    text: &[u8],
-    from: usize,
-    n: usize,
-    sizes: &[u16],
-    swaps: &mut [u16],
-) -> Result<Block, Refused>
-    requires { KindsFine n × (length sizes.now ≡ n) × (length swaps.old ≡ swap_room) }
-    ensures { Within most_swaps result × (swap_lines n sizes.now 0 [] (split 10 (drop from text.now)) ≡ swaps_got n result swaps.new text.now) }
+// The swap lines, up to the first line of another word. The walk goes by the places that the lines hand back; the count is the answer.
+fn read_swaps(text: &[u8], from: usize, sizes: &[u16], swaps: &mut [u16]) -> Result<Block, Refused>
+    requires { KindsFine (length sizes.now) × (length swaps.old ≡ swap_room) }
+    ensures { Within most_swaps result × (swap_lines (length sizes.now) sizes.now 0 [] (split 10 (drop from text.now)) ≡ swaps_got (length sizes.now) result swaps.new text.now) }
 {
     let mut at = from;
     let mut used = 0;
     while at < text.len() {
-        let Some(next) = records::swap_line(text, at, 4 + used, n, sizes, used, swaps)? else {
+        let Some(next) = records::swap_line(text, at, 4 + used, sizes, used, swaps)? else {
             break;
         };
         at = next;
@@ -59,16 +53,17 @@ fn read_swaps(
     })
 }
 
-// The load lines, up to the end of the text, the first of them on line `first`.
+// The load lines, up to the end of the text, the first of them on line `first`: how many there are. A loop of its own beside read_swaps: another word ends
+// the swaps, and is refused among the loads.
 fn read_loads(
     text: &[u8],
     from: usize,
     first: usize,
     n: usize,
     loads: &mut [u16],
-) -> Result<Block, Refused>
+) -> Result<usize, Refused>
     requires { (n ≤ most_kinds) × (first ≤ 68) × (length loads.old ≡ load_room) }
-    ensures { Within most_loads result × (load_lines n first 0 [] (split 10 (drop from text.now)) ≡ loads_got n result loads.new) }
+    ensures { IfOk result (λ count. count ≤ most_loads) × (load_lines n first 0 [] (split 10 (drop from text.now)) ≡ loads_got n result loads.new) }
 {
     let mut at = from;
     let mut used = 0;
@@ -78,34 +73,31 @@ fn read_loads(
         at = next.ok_or(Refusal::BadLine.at(line))?;
         used += 1;
     }
-    Ok(Block {
-        count: used,
-        next: at,
-    })
+    Ok(used)
 }
 
 // The lines from the fourth on.
 fn read_rest(
     text: &[u8],
     at: usize,
-    n: usize,
     sizes: &[u16],
     swaps: &mut [u16],
     loads: &mut [u16],
 ) -> Result<Rest, Refused>
-    requires { KindsFine n × (length sizes.now ≡ n) × (length swaps.old ≡ swap_room) × (length loads.old ≡ load_room) }
-    ensures { RestWithin result × (swap_lines n sizes.now 0 [] (split 10 (drop at text.now)) ≡ rest_got n result swaps.new loads.new) }
+    requires { KindsFine (length sizes.now) × (length swaps.old ≡ swap_room) × (length loads.old ≡ load_room) }
+    ensures { RestWithin result × (swap_lines (length sizes.now) sizes.now 0 [] (split 10 (drop at text.now)) ≡ rest_got (length sizes.now) result swaps.new loads.new) }
 {
-    let swap_block = read_swaps(text, at, n, sizes, swaps)?;
-    let load_block = read_loads(text, swap_block.next, 4 + swap_block.count, n, loads)?;
+    let swap_block = read_swaps(text, at, sizes, swaps)?;
+    let first = 4 + swap_block.count;
+    let load_count = read_loads(text, swap_block.next, first, sizes.len(), loads)?;
     Ok(Rest {
         swaps: swap_block.count,
-        loads: load_block.count,
+        loads: load_count,
     })
 }
 
 // The text's lines in their sequence. The four buffers go side by side, as the C interface lends them: a struct of them would be made
-// only to be taken apart.
+// only to be taken apart, and to make arrays of them would take four conversions, each with its refusal, where one test does.
 fn read_text(
     text: &[u8],
     sizes: &mut [u16],
@@ -120,7 +112,7 @@ fn read_text(
     let kit = first.kit;
     let second = records::size_line(text, first.next, kit.kinds, sizes)?;
     let third = records::cost_line(text, second, kit.kinds, costs)?;
-    let rest = read_rest(text, third, kit.kinds, &sizes[..kit.kinds], swaps, loads)?;
+    let rest = read_rest(text, third, &sizes[..kit.kinds], swaps, loads)?;
     Ok(Counts {
         kinds: kit.kinds,
         bound: kit.bound,

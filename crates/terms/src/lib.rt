@@ -55,7 +55,7 @@ pub enum Refusal {
     LongText,
 }
 
-// A refusal: why, and at which row, swap or line; the place is 0 where the reason has none.
+// A refusal: why, and at which row, swap or line; the place is 0 where the reason has none. A number and no Option: C is handed it so.
 #[derive(Clone, Copy, PartialEq, Eq, Debug)]
 pub struct Refused {
     pub why: Refusal,
@@ -70,7 +70,7 @@ impl Refusal {
     }
 }
 
-// The refusal numbers, for whoever writes one.
+// The refusal numbers, for whoever writes one. Each stands beside its case, as in `number_of`: discriminants would say no less.
 impl From<Refusal> for u32 {
     ghost from_gives = { λ why number. number ≡ number_of why };
 

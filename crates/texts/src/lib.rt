@@ -1,4 +1,4 @@
-// Numbers in text: decimal, of any length, with no leading zero. A number above every limit is held at CAP.
+// Numbers in text, by functions on a slice and a place; the thin reader over them is lines::LineReader. Decimal, of any length, with no leading zero. A number above every limit is held at CAP.
 #![tactic(auto)]
 
 ghost use Rattle.std.specs.Prelude.{◌≡◌, true, ◌+◌, ◌≤◌, ◌<◌, length, drop, IfSome, option_copied};

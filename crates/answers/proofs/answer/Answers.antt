@@ -14,5 +14,5 @@ pub returns-in-Err : goal.returns-in-Err
 returns-in-Err g c =
     let read = c.read_sheet in
     record {
-      written = answer_refused c.args.text.now read.new.sizes read.new.costs read.new.swaps read.new.loads read.ensures c.from.result c.args.out.now.items c.in-Err.is c.from.ensures c.refused_line.ensures.stored;
+      written = answer_refused c.args.text.now read.new.sizes read.new.costs read.new.swaps read.new.loads read.ensures c.number_of.result c.args.out.now.items c.in-Err.is c.number_of.ensures c.refused_line.ensures.stored;
     }

@@ -1,8 +1,20 @@
-use Rattle.std.proofs.Common.{ℕ, ◌*◌, arith}
+use Rattle.std.proofs.Common.{ℕ, ◌*◌, ◌≤◌, length, arith, rules}
 use Rattle.std.proofs.lemmas.List.{take-replicate}
+use Rattle.answers.proofs.Lent.{lent_count, shown_lent}
 use Rattle.answers.proofs.sheet_lines.Goals as goal
+
+pub show-requires : goal.show-requires
+show-requires g c =
+    let a = c.args in
+    let lies : a.counts.loads * a.counts.kinds ≤ length a.loads.now = search rules in
+    let has = c.requires.0 in
+    (search rules, (rw (lent_count a.counts.kinds a.counts.loads a.loads.now lies has.kinds.0) has.loads, omega (arith, has.swaps), c.requires.1))
 
 pub returns : goal.returns
 returns g c =
-    let rows = 256 * (2 * c.args.counts.kinds) in
-    record { written = rw (take-replicate {X = ℕ} rows 6144 0 (omega (arith, c.requires.0.kinds.1))) at c.show.ensures.written }
+    let a = c.args in
+    let n = a.counts.kinds in
+    let rows = 256 * (2 * n) in
+    let lies : a.counts.loads * n ≤ length a.loads.now = search rules in
+    let room = take-replicate {X = ℕ} rows 6144 0 (omega (arith, c.requires.0.kinds.1)) in
+    record { written = shown_lent n a.counts.loads a.loads.now lies a.counts.bound _ _ _ _ c.requires.0.kinds.0 room c.show.ensures.written }

@@ -20,7 +20,7 @@ pub one_grade-requires : goal.one_grade-requires
 one_grade-requires c =
     let s = c.loop-g.invariant in
     let long = length-map c.loop-g.table.items as_row in
-    record { at_grade = ((c.requires.0, s.at c.requires.0), s.entered); has_room = (s.some, omega arith, omega (arith, s.roomy, long), c.requires.1) }
+    (refl, (((c.requires.0, s.at c.requires.0), s.entered), (s.some, omega arith, omega (arith, s.roomy, long))))
 
 pub returns-then-is_err : goal.returns-then-is_err
 returns-then-is_err c = grading_full c.loop-g.invariant c.one_grade.ensures.done (rows_over c.one_grade.new.table.items refl (at_error _ _ c.one_grade.result c.one_grade.ensures.room (sym c.is_err.ensures.value ∙ c.if-is_err.true)))

@@ -10,3 +10,6 @@ invariant-loop-g l = Grading l.bound l.sizes l.weights (as_sheet l.swaps) (stamp
 
 abbrev pub decreases-loop-g : goal.decreases-loop-g
 decreases-loop-g l = l.bound + 1 - l.g
+
+abbrev pub ghost-one_grade : goal.ghost-one_grade
+ghost-one_grade a = a.self.now.weights.now

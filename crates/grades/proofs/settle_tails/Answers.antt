@@ -5,13 +5,13 @@ use Rattle.grades.proofs.Ends.{tails_none, tails_asked, tails_turn, tails_end}
 use Rattle.grades.proofs.settle_tails.Goals as goal
 
 pub loop-r-init : goal.loop-r-init
-loop-r-init c = tails_none (omega (arith, c.requires.in_table, length-map c.args.table.now as_row))
+loop-r-init g c = tails_none (omega (arith, c.requires.1, length-map c.args.table.now as_row))
 
 pub settle_tail-requires : goal.settle_tail-requires
-settle_tail-requires c = (tails_asked c.loop-r.invariant c.requires.inside.3 c.requires.inside.4, omega arith)
+settle_tail-requires g c = (tails_asked c.loop-r.invariant c.requires.0.3 c.requires.0.4, omega arith)
 
 pub loop-r-preserved : goal.loop-r-preserved
-loop-r-preserved c = tails_turn c.loop-r.invariant (omega (arith, length-map c.args.table.now as_row)) c.settle_tail.ensures
+loop-r-preserved g c = tails_turn c.loop-r.invariant (omega (arith, length-map c.args.table.now as_row)) c.settle_tail.ensures
 
 pub returns : goal.returns
-returns c = tails_end c.loop-r.invariant (omega (arith, length-map c.args.table.now as_row))
+returns g c = tails_end c.loop-r.invariant (omega (arith, length-map c.args.table.now as_row))

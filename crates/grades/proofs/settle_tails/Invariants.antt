@@ -4,4 +4,7 @@ use Rattle.grades.proofs.Ends.{TailsGoing}
 use Rattle.grades.proofs.settle_tails.Given as goal
 
 abbrev pub invariant-loop-r : goal.invariant-loop-r
-invariant-loop-r l = TailsGoing l.weights (as_rows l.initial.table) l.base (as_rows l.table) l.r
+invariant-loop-r g l = TailsGoing g.weights (as_rows l.initial.table) l.base (as_rows l.table) l.r
+
+abbrev pub ghost-settle_tail : goal.ghost-settle_tail
+ghost-settle_tail g a = g.weights

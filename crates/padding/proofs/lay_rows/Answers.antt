@@ -13,7 +13,7 @@ loop-r-preserved c =
     let a = c.args in
     let l = c.loop-r in
     let past : Held = record { head = []; tail = [] } in
-    let room = row_in a.n (length a.table.now) l.r (length a.rules.now) c.loop-r-test.true c.requires.1 in
+    let room = row_in a.n (length a.table.now) l.r (length a.rules.now) c.loop-r-test.true c.requires.0 in
     c.lay_row.ensures
     ∙ ap (λ (b : Row). row_over a.n b l.r l.rules) (sym (get_or-map as_row a.table.now l.r past))
     ∙ resize_next a.n (length a.rules.now) (as_rows a.table.now) l.r (as_row past) (omega (arith, length-map a.table.now as_row)) room l.rules l.invariant

@@ -1,7 +1,7 @@
 use Rattle.std.proofs.Common.{◌≡◌, ◌+◌, ◌∙◌, sym, rules, arith}
 use Rattle.std.specs.Iterator.Adapters.{enumerate_count}
 use Rattle.report.specs.Report.{LineBy, load_at}
-use Rattle.report.proofs.Parts.{first_load, later_loads, at_end}
+use Rattle.report.proofs.Parts.{first_load, later_loads, in_count, at_end}
 use Rattle.report.proofs.Writing.{written_none, written_next, written_of}
 use Rattle.report.proofs.load_lines.Goals as goal
 
@@ -12,7 +12,7 @@ loop-i-init g c =
     record {
       can = search rules;
       ends = search rules;
-      left = search rules;
+      within = omega (arith, e);
       width = search rules;
       rest = rw e (search rules);
       written = rw e (written_none (λ k. LineBy a.table.now (a.first + k) (load_at a.table.now.kit.kinds a.loads.now k)) a.out.now.items);
@@ -27,12 +27,12 @@ loop-i-preserved g c =
     let kept = c.loop-i.invariant in
     let s = c.in-Some.ensures.steps in
     let next : enumerate_count c.next.new.self ≡ i + 1 = s.2 in
-    let left = sym kept.rest ∙ s.0.0.1.0 in
-    let long = s.0.0.1.1 ∙ kept.width in
+    let left = sym kept.rest ∙ s.0.1.0 in
+    let long = s.0.1.1 ∙ kept.width in
     record {
       can = search rules;
       ends = search rules;
-      left = search rules;
+      within = rw next (in_count n i a.loads.now _ _ left long c.requires.ready.0.kinds.0);
       width = search rules;
       rest = rw next (later_loads n i a.loads.now _ _ left long);
       written = rw next
@@ -46,5 +46,5 @@ returns-clause-written g c =
     let a = c.args in
     let kept = c.loop-i.invariant in
     let s = c.in-None.ensures.steps in
-    let all = at_end a.table.now.kit.kinds _ _ a.count a.loads.now kept.left c.requires.ready.1 (λ more. rw (kept.rest, kept.width) at (s.0 more).1.0) in
+    let all = at_end a.table.now.kit.kinds _ a.loads.now c.requires.ready.0.kinds.0 kept.within (rw (kept.rest, kept.width) at s.0.1.0) in
     rw all at kept.written

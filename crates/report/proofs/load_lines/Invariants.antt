@@ -1,5 +1,5 @@
-use Rattle.std.proofs.Common.{◌≡◌, ◌+◌, ◌*◌, ◌≤◌, length, drop}
-use Rattle.std.specs.Iterator.Adapters.{enumerate_source, enumerate_count, take_source, take_count}
+use Rattle.std.proofs.Common.{◌≡◌, ◌+◌, ◌*◌, ◌/◌, ◌≤◌, length, drop}
+use Rattle.std.specs.Iterator.Adapters.{enumerate_source, enumerate_count}
 use Rattle.std.specs.Slice.Iter.{chunks_exact_rest, chunks_exact_size}
 use Rattle.report.specs.Report.{LinesBy, Written, load_most}
 use Rattle.report.proofs.load_lines.Given as goal
@@ -8,9 +8,9 @@ abbrev pub invariant-loop-i : goal.invariant-loop-i
 invariant-loop-i g l = record {
   can : (goal.iterator-loop-i g).can_next l.i-iterator;
   ends : (goal.iterator-loop-i g).is_finite l.i-iterator;
-  left : enumerate_count l.i-iterator + take_count (enumerate_source l.i-iterator) ≡ l.count;
-  width : chunks_exact_size (take_source (enumerate_source l.i-iterator)) ≡ l.table.kit.kinds;
-  rest : chunks_exact_rest (take_source (enumerate_source l.i-iterator)) ≡ drop (enumerate_count l.i-iterator * l.table.kit.kinds) l.fn.loads;
-  written : Written (LinesBy l.table l.fn.loads l.first (enumerate_count l.i-iterator)) l.initial.out.items l.out.items;
+  within : enumerate_count l.i-iterator ≤ length l.loads / l.table.kit.kinds;
+  width : chunks_exact_size (enumerate_source l.i-iterator) ≡ l.table.kit.kinds;
+  rest : chunks_exact_rest (enumerate_source l.i-iterator) ≡ drop (enumerate_count l.i-iterator * l.table.kit.kinds) l.loads;
+  written : Written (LinesBy l.table l.loads l.first (enumerate_count l.i-iterator)) l.initial.out.items l.out.items;
   short : length l.out.items ≤ length l.initial.out.items + enumerate_count l.i-iterator * load_most;
 }

@@ -5,7 +5,7 @@ use Rattle.sheet.specs.Sheet.{swap_lines}
 use Rattle.sheet.proofs.read_swaps.Given as goal
 
 abbrev pub invariant-loop-at : goal.invariant-loop-at
-invariant-loop-at l = (l.used ≤ 64) × (length l.swaps ≡ length l.initial.swaps) × (swap_lines l.n l.sizes l.used (take (l.used * (2 * l.n)) l.swaps) (split 10 (drop l.at l.text)) ≡ swap_lines l.n l.sizes 0 [] (split 10 (drop l.from l.text)))
+invariant-loop-at l = (l.used ≤ 64) × (length l.swaps ≡ length l.initial.swaps) × (swap_lines (length l.sizes) l.sizes l.used (take (l.used * (2 * length l.sizes)) l.swaps) (split 10 (drop l.at l.text)) ≡ swap_lines (length l.sizes) l.sizes 0 [] (split 10 (drop l.from l.text)))
 
 abbrev pub decreases-loop-at : goal.decreases-loop-at
 decreases-loop-at l = 64 - l.used

@@ -1,5 +1,5 @@
 use Rattle.std.proofs.Common.{rules, ◌≤◌, ◌<◌, arith, ℕ, List, tests}
-use Rattle.std.specs.Prelude.{Option, None, Some, MatchOption, unwrap_or}
+use Rattle.std.specs.Prelude.{Option, None, Some, MatchOption, unwrap_or, length}
 use Rattle.std.proofs.lemmas.Iterator.{first_from_Range}
 use Rattle.terms.specs.Flat.{swap_at}
 use Rattle.sides.specs.Fine.{Unequal, Even, LowestBad}
@@ -17,8 +17,8 @@ lowest n sizes swaps count (Some k) (_, l, bad, fine) = record { within = omega 
 
 pub returns-clause-first : goal.returns-clause-first
 returns-clause-first c =
-    let n = c.args.n in
     let sizes = c.args.sizes.now in
+    let n = length sizes in
     let swaps = c.args.swaps.now in
     lowest n sizes swaps c.args.count c.find.result
     (first_from_Range _ _ _ _ (Bad n sizes swaps) (Good n sizes swaps) c.find.ensures.ran
