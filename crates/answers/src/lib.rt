@@ -1,4 +1,5 @@
-// What the program writes for a sheet: the rule lines of the finished table, then a line for each load, or the refusal.
+// What the program writes for a sheet: the rule lines of the finished table, then a line for each load, or the refusal. Each function
+// asks for the room of the longest output, since it hands the one vector on.
 #![tactic(auto)]
 
 ghost use Rattle.std.specs.Prelude.{◌+◌, ◌/◌, ◌≤◌, ◌≡◌, length, Ok};
@@ -22,7 +23,7 @@ const LOAD_ROOM: usize = Kit::LOADS * Kit::KINDS;
 // How many counts the rows of its table have at most.
 const RULE_ROOM: usize = Kit::ROWS * 2 * Kit::KINDS;
 
-// The number of a refusal as the printer takes it: a refusal gives a u32.
+// The number of a refusal as the printer takes it: a refusal gives a u32, from which there is no `From` to usize.
 fn number_of(why: Refusal) -> usize
     ensures { result ≡ number_of why }
 {

@@ -1,4 +1,4 @@
-// The cost order on lent loads. A change of the order changes this crate, `terms/specs/Order.antt` and `laws/specs/Order.antt`.
+// The cost order on lent loads; costs and two loads are what it is about, and a struct of them would be made only to be taken apart. A change of the order changes this crate, `terms/specs/Order.antt` and `laws/specs/Order.antt`.
 #![tactic(auto)]
 
 ghost use Rattle.std.specs.Prelude.{◌≡◌, ◌≤◌, length};

@@ -19,7 +19,7 @@ use grades::Stamped;
 use rack::Table;
 use terms::{Kit, Refusal, Refused};
 
-// A kit and its sheet, as they are lent.
+// A kit and its sheet, as they are lent. Plain fields and no invariant: C may fill them with anything, and `tested` is what tests them.
 #[derive(Clone, Copy)]
 pub struct Sheet<'a> {
     pub kit: Kit,

@@ -127,7 +127,8 @@ impl Work<'_> {
         Ok(())
     }
 
-    // Grade g: its swaps and its listed pairs joined, the new rows' tails settled, the new rows put in order and entered.
+    // Grade g: its swaps and its listed pairs joined, the new rows' tails settled, the new rows put in order and entered. The cast loses
+    // nothing: a bound is at most 1,000.
     fn one_grade(
         &self,
         g: u16,

@@ -1,4 +1,5 @@
-// One row applied many times at once, where single steps by the first row that fits would do the same.
+// One row applied many times at once, where single steps by the first row that fits would do the same. A row is a view of any table and
+// x a load of any kit, so each contract says that their lengths agree.
 #![tactic(auto)]
 
 ghost use Rattle.std.specs.Prelude.{◌≡◌, ℕ, ◌+◌, ◌*◌, ◌-◌, ◌≤◌, ◌<◌, length, get_or};
@@ -119,7 +120,7 @@ pub fn leap_in(more: u16, row: &Row<'_>, x: &mut [u16])
     }
 }
 
-// Fewer rounds: the most after which the head p of an earlier row does not fit yet.
+// Fewer rounds: the most after which the head p of an earlier row does not fit yet, or 0. By place, as rounds_of.
 fn fewer(p: &[u16], row: &Row<'_>, x: &[u16], more: u16) -> u16
     requires { (0 < more) × (length p.now ≡ length x.now) × (length row.now.head.now ≡ length x.now) × (length row.now.tail.now ≡ length x.now) }
     ensures { result < more }

@@ -74,7 +74,7 @@ pub fn measure_of<M: Measure>(measures: &[M], x: &[u16]) -> i64
     sum
 }
 
-// The grade of x: the sum of size times count.
+// The grade of x: the sum of size times count. The cast loses nothing, since no size is negative.
 pub fn grade_of(sizes: &[u16], x: &[u16]) -> Grade
     requires { (length sizes.now ≡ length x.now) × (length x.now ≤ most_kinds) }
     ensures { result ≡ grade sizes.now x.now }

@@ -20,7 +20,8 @@ fn weigh(cost: i32, size: u16) -> u32
     (i64::from(cost) + i64::from(Kit::COST) * i64::from(size)) as u32
 }
 
-// The weights of the 12 kinds: a further kind costs nothing and has size 1.
+// The weights of the 12 kinds: a further kind costs nothing and has size 1. By place: after `iter_mut().zip(..)` the check knows nothing
+// of what was written.
 pub fn weigh_all(sizes: &[u16], costs: &[i32]) -> [u32; 12]
     requires { FineKit (length sizes.now) sizes.now costs.now }
     ensures { result ≡ weights (length sizes.now) sizes.now costs.now }

@@ -64,7 +64,8 @@ fn has_pivot(table: &[Row], p: usize, i: usize, j: usize) -> bool
     i < j && covers(&table[p].head, &table[i].head, &table[j].head)
 }
 
-// The rows below j whose least load with row j is within the bound, with the grades.
+// The rows below j whose least load with row j is within the bound, with the grades. The casts lose nothing: a row number is below 256,
+// and a grade at most the bound. Sizes, bound and table go side by side: a struct of them would be made for one call.
 fn candidates(sizes: &[u16; 12], bound: u32, table: &[Row], j: usize) -> ArrayVec<Candidate, 256>
     requires { Enterable bound sizes.now (as_rows table.now) (j + 1) }
     ensures { Picked bound sizes.now (as_rows table.now) j j result.items }
@@ -97,7 +98,7 @@ fn sift(table: &[Row], p: usize, j: usize, candidates: &mut ArrayVec<Candidate, 
     candidates.retain(|a| !has_pivot(table, p, usize::from(a.row), j));
 }
 
-// Enters row j: lists pairs (p, j) until each row below j within the bound has a pivot.
+// Enters row j, which is below 256: lists pairs (p, j) until each row below j within the bound has a pivot.
 pub fn enter(
     sizes: &[u16; 12],
     bound: u32,

@@ -35,7 +35,7 @@ fn due_line(
     shapes::line_at(text, at, line, word, signed, row)?.ok_or(Refusal::BadLine.at(line))
 }
 
-// Line 1: the kit, its n and its B within their limits.
+// Line 1: the kit, its n and its B within their limits. From u32 to usize there is no `From`; the casts lose nothing.
 pub fn kit_line(text: &[u8]) -> Result<KitLine, Refused>
     ensures { kit_line (split 10 text.now) ≡ kit_got result text.now }
 {
@@ -115,7 +115,7 @@ pub fn size_line(text: &[u8], at: usize, n: usize, sizes: &mut [u16]) -> Result<
     )
 }
 
-// The cost that stands in a row by its distance above -CAP, if it is in range.
+// The cost that stands in a row by its distance above -CAP, if it is in range; then the casts lose nothing.
 fn cost_from(code: u32) -> Option<i32>
     ensures { result ≡ ranged cost_from (cap - most_cost) (cap + most_cost) code }
 {

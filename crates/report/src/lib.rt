@@ -50,6 +50,7 @@ fn load_line<const N: usize>(
     ensures upper_bound { array_vec_len out.new ≤ array_vec_len out.old + load_most }
 {
     if table.kit.bound < loads::grade_of(table.sizes, load) {
+        // from u32 to usize there is no `From`
         print::refused_line(out, u32::from(Refusal::OverBound) as usize, line);
         return;
     }

@@ -13,7 +13,8 @@ ghost use Rattle.settle.specs.Call.{Lengths, tests, Settling};
 
 use terms::{Kit, Refusal, Refused};
 
-// A kit with its rule table, as they are lent: the first `rows` rows of `rules` are in use.
+// A kit with its rule table, as they are lent: the first `rows` rows of `rules` are in use. Plain fields and no invariant: C may fill
+// them with anything, and `tested` is what tests them.
 #[derive(Clone, Copy)]
 pub struct Table<'a> {
     pub kit: Kit,
