@@ -111,7 +111,7 @@ impl Sheet<'_> {
 }
 
 // The stamp of a load of 12 kinds: its grade where that is within the bound, else 0, at which nothing is due. A number and no Option:
-// growth's `stamp` says it so.
+// growth's `stamp` says it so. The cast loses nothing: a bound is at most 1,000.
 fn stamp_of(bound: usize, sizes: &[u16; Kit::KINDS], x: &[u16; Kit::KINDS]) -> u16
     requires { bound ≤ most_bound }
     ensures { result ≡ stamp bound (grade sizes.now x.now) }

@@ -49,7 +49,7 @@ fn joined(weights: &[u32; 12], table: &mut Table, mut x: [u16; 12], mut y: [u16;
     }
 }
 
-// What row (head, tail) makes of the least load that holds its head and the head q. By place: after `iter_mut().zip(..)` the check knows
+// What row (head, tail) makes of the least load that holds its head and the head q, in one pass and not by loads::exchange_in. By place: after `iter_mut().zip(..)` the check knows
 // nothing of what was written.
 fn make(head: &[u16; 12], tail: &[u16; 12], q: &[u16; 12]) -> [u16; 12]
     requires { UpTo 65535 (exchange head.now tail.now (join head.now q.now)) }
@@ -73,7 +73,7 @@ fn join_pair(weights: &[u32; 12], p: usize, j: usize, table: &mut Table)
     joined(weights, table, x, y);
 }
 
-// The tails of the rows from base on settled.
+// The tails of the rows from base on settled. By number: each turn works on the whole table and names the row.
 fn settle_tails(table: &mut [Row], base: usize)
     ghost weights: { List ℕ }
     requires inside { (sheet : List Swap) × (stamps : List ℕ) × (g : ℕ) × (w : Within weights sheet stamps g (as_rows table.old)) × (length w.low ≡ base) }
@@ -154,7 +154,7 @@ impl Work<'_> {
 }
 
 // Every grade up to the bound at which anything is due, from an empty table. It has more rows than the room where there is none for them
-// all: its length tells, as `AllDone` says.
+// all: its length tells, as `AllDone` says. The cast loses nothing: a grade is at most the bound.
 pub fn all_grades(
     sizes: &[u16; 12],
     weights: &[u32; 12],

@@ -12,7 +12,7 @@ ghost use Rattle.padding.specs.Widen.{FineKit, weight, weights, widen, widen_siz
 use rack::Row;
 use terms::Kit;
 
-// What a part weighs.
+// What a part weighs. The cast loses nothing: a weight is from 0 to 1,001,000,000.
 fn weigh(cost: i32, size: u16) -> u32
     requires { SizeFine size × CostFine cost }
     ensures { result ≡ weight size cost }

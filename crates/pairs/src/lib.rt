@@ -31,7 +31,7 @@ struct Candidate {
     grade: u16,
 }
 
-// The grade of the least load that holds both.
+// The grade of the least load that holds both, which is never written down: to call loads::grade_of it would be.
 pub fn common_grade(sizes: &[u16; 12], a: &[u16; 12], b: &[u16; 12]) -> u32
     requires { UpTo 1000 sizes.now × UpTo 1000 a.now × UpTo 1000 b.now }
     ensures { result ≡ grade sizes.now (join a.now b.now) }
@@ -120,7 +120,7 @@ pub fn enter(
     }
 }
 
-// Enters the rows from base on.
+// Enters the rows from base on. By number: each turn works on the whole table and names the row.
 pub fn enter_all(
     sizes: &[u16; 12],
     bound: u32,
