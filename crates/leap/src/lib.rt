@@ -87,7 +87,8 @@ impl Kind {
     }
 }
 
-// How many more rounds the head fits: the most, or `MOST`. By place: over a zip of the three it takes 24 ns and not 21.
+// How many more rounds the head fits: the most, or `MOST`. By place: over a zip of the three it takes
+// 24 ns or more, and so 21.
 pub fn rounds_of(row: &Row<'_>, x: &[u16]) -> u16
     requires { Fits row.now.head.now x.now × (length row.now.tail.now ≡ length x.now) }
     ensures { (result ≤ 1000) × Rounds result row.now.head.now row.now.tail.now x.now }
@@ -99,8 +100,8 @@ pub fn rounds_of(row: &Row<'_>, x: &[u16]) -> u16
     more
 }
 
-// The load of the greatest counts on the way, put into y. By place, as all that writes counts: after `iter_mut().zip(..)` the check knows
-// nothing of what was written.
+// The load of the greatest counts on the way, put into y. By place: after `iter_mut().zip(..)` the check knows nothing of
+// what was written.
 pub fn top_in(more: u16, row: &Row<'_>, x: &[u16], y: &mut [u16])
     requires { (length row.now.head.now ≡ length x.now) × (length row.now.tail.now ≡ length x.now) × (length y.old ≡ length x.now) × UpTo 65535 (tops more row.now.head.now row.now.tail.now x.now) }
     ensures { y.new ≡ tops more row.now.head.now row.now.tail.now x.now }
