@@ -7,6 +7,7 @@ ghost use Rattle.terms.specs.Limits.{All, CostFine, most_kinds};
 ghost use Rattle.terms.specs.Order.{cost, Lex, Before};
 ghost use Rattle.compare.specs.Earlier.{Fine, Earlier};
 
+use std::cmp::Ordering;
 use terms::Kit;
 
 // Wide enough, and signed, for the cost of any load: 12 times 65,535 times 2,147,483,648 either way.
@@ -33,7 +34,11 @@ pub fn comes_before(costs: &[i32], x: &[u16], y: &[u16]) -> bool
     requires { (length costs.now ≡ length x.now) × (length x.now ≡ length y.now) × (length x.now ≤ most_kinds) }
     ensures { Decides (Before costs.now x.now y.now) result }
 {
-    (cost_of(costs, x), x) < (cost_of(costs, y), y)
+    match cost_of(costs, x).cmp(&cost_of(costs, y)) {
+        Ordering::Less => true,
+        Ordering::Equal => lex_less(x, y),
+        Ordering::Greater => false,
+    }
 }
 
 // Whether every cost is in range.

@@ -1,13 +1,16 @@
 -- Which word a field is, by its length and its bytes; and what number it is, with a minus or without. Assumes nothing.
-use Rattle.std.proofs.Common.{◌≡◌, ℕ, suc, ◌+◌, ◌≤◌, ◌<◌, List, [], ◌∷◌, Bool, true, false, cond, eqb, length, get_or, drop, refl, ap, sym, ◌∙◌, add-one, drop-cons, drop_of_length-le, eqb-true, ne_eqb, Option, Some, None, option_map, arith}
+use Rattle.std.proofs.Common.{◌≡◌, ℕ, zero, suc, ◌+◌, min, ◌≤◌, ◌<◌, List, [], ◌∷◌, Bool, true, false, cond, eqb, length, get_or, take, drop, refl, ap, sym, ◌∙◌, add-one, drop-cons, drop_of_length-le, eqb-true, ne_eqb, Option, Some, None, option_map, arith}
 use Rattle.std.proofs.Math.Option as maybe
 use Rattle.texts.specs.declared.Num.{Num}
-use Rattle.texts.specs.Number.{held, number_of, digits, ends_field, piece, closed, number_at}
+use Rattle.std.specs.List.{slice_range}
+use Rattle.texts.specs.Number.{held, number_of, digits, ends_field, piece, closed, ended, number_at}
+use Rattle.texts.proofs.Runs.{rest_is}
 use Rattle.lines.specs.declared.Word.{Word}
 use Rattle.lines.specs.declared.Word.TheVariants.{Kit, Size, Cost, Swap, Load}
 use Rattle.lines.specs.declared.Field.{Field}
+use Rattle.lines.specs.declared.Field.TheVariants as field
 use Rattle.lines.specs.declared.Field.TheVariants.{Number}
-use Rattle.lines.specs.Fields.{same, kit_word, size_word, cost_word, swap_word, load_word, which_word, numbered, lessened, signed, number_in, minus_in}
+use Rattle.lines.specs.Fields.{same, kit_word, size_word, cost_word, swap_word, load_word, which_word, worded, numbered, lessened, signed, word_in, number_in, minus_in}
 
 -- a field of three bytes, and one of four
 abbrev pub of_three : ℕ → ℕ → ℕ → Option Word
@@ -59,6 +62,85 @@ word_read (a ∷ (b ∷ (c ∷ (d ∷ (e ∷ p))))) = other_read (a ∷ (b ∷ (
 
 pub no_word : (p : List ℕ) → length p ≡ 4 → (get_or p 0 0 ≡ 115 → ⊥) → (get_or p 0 0 ≡ 99 → ⊥) → (get_or p 0 0 ≡ 108 → ⊥) → None ≡ which_word p
 no_word p n s c l = rw (word_read p, n, ne_eqb _ _ s, ne_eqb _ _ c, ne_eqb _ _ l)
+
+-- ## A word by the first five bytes of what stands there
+
+-- a field that ends among the first k bytes
+near_same : (k : ℕ) (l : List ℕ) → closed (take k l) ≡ true → (closed l ≡ true) × (piece l ≡ piece (take k l))
+unfolding closed piece
+near_same zero l e = cc
+near_same (suc k) [] e = cc
+near_same (suc k) (b ∷ l) e = go (ends_field b) (near_same k l) e
+  where
+    go : (t : Bool) → (closed (take k l) ≡ true → (closed l ≡ true) × (piece l ≡ piece (take k l))) → cond t true (closed (take k l)) ≡ true
+        → (cond t true (closed l) ≡ true) × (cond t [] (b ∷ piece l) ≡ cond t [] (b ∷ piece (take k l)))
+    go true h e = (refl, refl)
+    go false h e = let n = h e in (n.0, ap (λ (p : List ℕ). b ∷ p) n.1)
+
+-- a field that ends after them
+near_long : (k : ℕ) (l : List ℕ) → closed (take k l) ≡ false → closed l ≡ true → k ≤ length (piece l)
+unfolding closed piece
+near_long zero l e c = omega arith
+near_long (suc k) [] e c = cc
+near_long (suc k) (b ∷ l) e c = go (ends_field b) (near_long k l) e c
+  where
+    go : (t : Bool) → (closed (take k l) ≡ false → closed l ≡ true → k ≤ length (piece l)) → cond t true (closed (take k l)) ≡ false → cond t true (closed l) ≡ true → suc k ≤ length (cond {A = List ℕ} t [] (b ∷ piece l))
+    go true h e c = cc
+    go false h e c = let n = h e c in omega (arith, n)
+
+closed_short : (l : List ℕ) → closed l ≡ true → length (piece l) < length l
+unfolding closed piece
+closed_short [] c = cc
+closed_short (b ∷ l) c = go (ends_field b) (closed_short l) c
+  where
+    go : (t : Bool) → (closed l ≡ true → length (piece l) < length l) → cond t true (closed l) ≡ true → length (cond {A = List ℕ} t [] (b ∷ piece l)) < suc (length l)
+    go true h c = omega arith
+    go false h c = let n = h c in omega (arith, n)
+
+long_word : (p : List ℕ) → 5 ≤ length p → which_word p ≡ None
+long_word p h = rw (word_read p, ne_eqb (length p) 3 (λ e. omega (arith, e)), ne_eqb (length p) 4 (λ e. omega (arith, e)))
+
+not_ended : (c : Bool) (p : List ℕ) → None ≡ cond c (Some p) None → c ≡ false
+not_ended true p e = absurd (let z : ◌≡◌ {A = ℕ} 0 1 = cc in omega arith)
+not_ended false p e = refl
+
+is_ended : (c : Bool) (p f : List ℕ) → Some f ≡ cond c (Some p) None → (c ≡ true) × (f ≡ p)
+is_ended true p f e = (refl, cc)
+is_ended false p f e = absurd (let z : ◌≡◌ {A = ℕ} 0 1 = cc in omega arith)
+
+-- the first bytes of the rest of a text from a place on, five or all
+module _ (s rest : List ℕ) (at k : ℕ) (e : rest ≡ slice_range s at (length s)) (m : k ≡ min (length rest) 5) where
+  rest_word : word_in rest at ≡ word_in (drop at s) at
+  rest_word = ap (λ (l : List ℕ). word_in l at) (e ∙ rest_is s at)
+
+  near_word : (f : List ℕ) → Some f ≡ ended (take k rest) → worded (at + length f) (which_word f) ≡ word_in rest at
+  near_word f h =
+      let o = is_ended (closed (take k rest)) (piece (take k rest)) f h in
+      let n = near_same k rest o.0 in
+      rw (n.0, n.1, o.1)
+
+  pub no_near : None ≡ ended (take k rest) → None ≡ word_in (drop at s) at
+  no_near h = go (closed rest) refl ∙ rest_word
+    where
+      far : closed rest ≡ true → 5 ≤ length (piece rest)
+      far c =
+          let l = near_long k rest (not_ended (closed (take k rest)) (piece (take k rest)) h) c in
+          let n = closed_short rest c in
+          omega (arith, l, n, m)
+
+      go : (c : Bool) → closed rest ≡ c → None ≡ cond c (worded (at + length (piece rest)) (which_word (piece rest))) None
+      go true c = rw (long_word (piece rest) (far c))
+      go false c = refl
+
+  pub near_other : (f : List ℕ) → Some f ≡ ended (take k rest) → None ≡ which_word f → None ≡ word_in (drop at s) at
+  near_other f h w = ap (worded (at + length f)) w ∙ near_word f h ∙ rest_word
+
+  pub near_found : (f : List ℕ) (w : Word) → Some f ≡ ended (take k rest) → Some w ≡ which_word f → Some (field.Word w (at + length f)) ≡ word_in (drop at s) at
+  near_found f w h g = ap (worded (at + length f)) g ∙ near_word f h ∙ rest_word
+
+pub no_place : (s : List ℕ) (at : ℕ) → length s ≤ at → None ≡ word_in (drop at s) at
+unfolding closed
+no_place s at h = rw (drop_of_length-le s h)
 
 -- ## Numbers
 

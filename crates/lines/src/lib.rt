@@ -61,11 +61,13 @@ fn word_of(field: &[u8]) -> Option<Word>
     }
 }
 
-// The word that is the field at a place.
+// The word that is the field at a place. No word has five bytes, so that a longer field is left after so many.
+#[tactic(auto, using(crate::proofs::Reading::no_place, crate::proofs::Reading::no_near, crate::proofs::Reading::near_other, crate::proofs::Reading::near_found))]
 fn word_at(text: &[u8], at: usize) -> Option<Field>
     ensures { result ≡ word_in (drop at text.now) at }
 {
-    let field = texts::field(text, at)?;
+    let rest = text.get(at..)?;
+    let field = texts::field(&rest[..rest.len().min(5)], 0)?;
     Some(Field::Word(word_of(field)?, at + field.len()))
 }
 

@@ -1,8 +1,8 @@
 -- Where a field ends, and what its digits are worth as the loop goes along them. Assumes nothing.
-use Rattle.std.proofs.Common.{◌≡◌, ℕ, suc, ◌+◌, ◌-◌, ◌*◌, min, ◌≤◌, ◌<◌, List, [], ◌∷◌, Bool, true, false, cond, ◌&&◌, length, get_or, take, drop, refl, ap, sym, add-one, drop-cons, Option, Some, None, arith, drop_of_length-le, length-drop, take_all, ◌∙◌}
+use Rattle.std.proofs.Common.{◌≡◌, ℕ, suc, ◌+◌, ◌-◌, ◌*◌, min, ◌≤◌, ◌<◌, List, [], ◌∷◌, Bool, true, false, cond, not, ◌&&◌, length, get_or, take, drop, refl, ap, sym, add-one, drop-cons, Option, Some, None, arith, drop_of_length-le, length-drop, take_all, ◌∙◌}
 use Rattle.std.proofs.Math.Option.{some, none}
 use Rattle.std.specs.List.{position_from, slice_range}
-use Rattle.texts.specs.Number.{cap, is_digit, ends_field, digits, plain, value_after, number_of, piece, closed, ended, held_value, more}
+use Rattle.texts.specs.Number.{cap, is_digit, ends_field, digits, plain, value_after, number_of, piece, closed, ended, all_digits, held_value, more}
 
 -- ## Where a field ends
 
@@ -26,7 +26,7 @@ pub past_end : (s : List ℕ) (at : ℕ) → length s ≤ at → None ≡ ended 
 unfolding closed
 past_end s at h = rw (drop_of_length-le s h)
 
-rest_is : (s : List ℕ) (at : ℕ) → slice_range s at (length s) ≡ drop at s
+pub rest_is : (s : List ℕ) (at : ℕ) → slice_range s at (length s) ≡ drop at s
 rest_is s at = take_all (length s - at) (drop at s) (omega (arith, length-drop at s))
 
 open_field : (l : List ℕ) (o : Option ℕ) → o ≡ None → Stops 0 (closed l) (piece l) l o → None ≡ ended l
@@ -49,6 +49,74 @@ module _ (s rest : List ℕ) (at : ℕ) (e : rest ≡ slice_range s at (length s
 
   pub an_end : (n : ℕ) → position_from ends_field 0 rest ≡ Some n → Some (take n rest) ≡ ended (drop at s)
   an_end n f = closed_field rest n _ f (stops 0 rest) ∙ ap ended (e ∙ rest_is s at)
+
+-- ## Where the digits of a field end
+
+-- a text has its first byte that is no digit so far from its start, which is the place i of another text
+Digits : ℕ → List ℕ → Option ℕ → Type 0
+Digits i l None = closed l ≡ false
+Digits i l (Some n) =
+    (i ≤ n) × (ends_field (get_or l (n - i) 0) ≡ true → (closed l ≡ true) × (piece l ≡ take (n - i) l) × (digits (piece l) ≡ true))
+    × (ends_field (get_or l (n - i) 0) ≡ false → (closed l && digits (piece l)) ≡ false)
+
+and_false : (c : Bool) → (c && false) ≡ false
+and_false true = refl
+and_false false = refl
+
+-- a digit does not end a field
+digit_on : (b : ℕ) → is_digit b ≡ true → ends_field b ≡ false
+digit_on b e = grind arith
+
+digits_cons : (t u : Bool) (i b : ℕ) (l : List ℕ) → is_digit b ≡ t → ends_field b ≡ u → (o : Option ℕ) → Digits (i + 1) l o → Digits i (b ∷ l) (cond (not t) (Some i) o)
+unfolding Digits closed piece digits
+digits_cons true u i b l d e None h = rw (digit_on b d) h
+digits_cons true u i b l d e (Some n) h =
+    let m : n - i ≡ suc (n - (i + 1)) = omega (arith, h.0) in
+    (omega (arith, h.0), rw (m, digit_on b d, d) (λ f. let k = h.1 f in (k.0, ap (λ (q : List ℕ). b ∷ q) k.1, k.2)), rw (m, digit_on b d, d) h.2)
+digits_cons false true i b l d e o h =
+    let m : i - i ≡ 0 = omega arith in
+    (omega arith, rw (m, e) (λ f. (refl, refl, refl)), rw (m, e) (λ f. cc))
+digits_cons false false i b l d e o h =
+    let m : i - i ≡ 0 = omega arith in
+    (omega arith, rw (m, e) (λ f. cc), rw (m, e, d) (λ f. and_false (closed l)))
+
+digits_run : (i : ℕ) (l : List ℕ) → Digits i l (position_from (λ b. not (is_digit b)) i l)
+unfolding Digits closed
+digits_run i [] = refl
+digits_run i (b ∷ l) = digits_cons (is_digit b) (ends_field b) i b l refl refl (position_from (λ b. not (is_digit b)) (i + 1) l) (digits_run (i + 1) l)
+
+pub digits_past : (s : List ℕ) (at : ℕ) → length s ≤ at → None ≡ all_digits (ended (drop at s))
+unfolding closed
+digits_past s at h = rw (drop_of_length-le s h)
+
+no_run : (c d : Bool) (p : List ℕ) → digits p ≡ d → (c && d) ≡ false → None ≡ all_digits (cond c (Some p) None)
+no_run true true p h e = cc
+no_run true false p h e = rw h
+no_run false d p h e = refl
+
+digits_none : (l : List ℕ) (o : Option ℕ) → o ≡ None → Digits 0 l o → None ≡ all_digits (ended l)
+unfolding Digits
+digits_none l None e h = rw h
+digits_none l (Some n) e h = absurd (let z : ◌≡◌ {A = ℕ} 0 1 = cc in omega arith)
+
+digits_to : (l : List ℕ) (n : ℕ) (o : Option ℕ) → o ≡ Some n → Digits 0 l o → (t : Bool) → ends_field (get_or l n 0) ≡ t → cond t (Some (take n l)) None ≡ all_digits (ended l)
+unfolding Digits
+digits_to l n None e h t f = absurd (let z : ◌≡◌ {A = ℕ} 0 1 = cc in omega arith)
+digits_to l n (Some k) e h t f = go t (let z : k - 0 ≡ n = let y : k ≡ n = cc in omega (arith, y) in z) f
+  where
+    go : (t : Bool) → k - 0 ≡ n → ends_field (get_or l n 0) ≡ t → cond t (Some (take n l)) None ≡ all_digits (ended l)
+    go true z f = let c = h.1 (ap (λ (m : ℕ). ends_field (get_or l m 0)) z ∙ f) in rw (c.0, c.2, sym z, c.1)
+    go false z f = no_run (closed l) (digits (piece l)) (piece l) refl (h.2 (ap (λ (m : ℕ). ends_field (get_or l m 0)) z ∙ f))
+
+module _ (s rest : List ℕ) (at : ℕ) (e : rest ≡ slice_range s at (length s)) where
+  pub digits_open : position_from (λ b. not (is_digit b)) 0 rest ≡ None → None ≡ all_digits (ended (drop at s))
+  digits_open f = digits_none rest _ f (digits_run 0 rest) ∙ ap (λ (l : List ℕ). all_digits (ended l)) (e ∙ rest_is s at)
+
+  pub digits_broken : (n : ℕ) → position_from (λ b. not (is_digit b)) 0 rest ≡ Some n → ends_field (get_or rest n 0) ≡ false → None ≡ all_digits (ended (drop at s))
+  digits_broken n f g = digits_to rest n _ f (digits_run 0 rest) false g ∙ ap (λ (l : List ℕ). all_digits (ended l)) (e ∙ rest_is s at)
+
+  pub digits_ended : (n : ℕ) → position_from (λ b. not (is_digit b)) 0 rest ≡ Some n → ends_field (get_or rest n 0) ≡ true → Some (take n rest) ≡ all_digits (ended (drop at s))
+  digits_ended n f g = digits_to rest n _ f (digits_run 0 rest) true g ∙ ap (λ (l : List ℕ). all_digits (ended l)) (e ∙ rest_is s at)
 
 -- ## What digits are worth
 

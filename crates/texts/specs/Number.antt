@@ -46,6 +46,11 @@ closed (b ∷ l) = cond (ends_field b) true (closed l)
 abbrev pub ended : List ℕ → std.Option (List ℕ)
 ended l = cond (closed l) (Some (piece l)) None
 
+-- a field, if it is all digits
+abbrev pub all_digits : std.Option (List ℕ) → std.Option (List ℕ)
+all_digits None = None
+all_digits (Some p) = cond (digits p) (Some p) None
+
 -- the program holds a number at cap, which is above every limit
 abbrev pub cap : ℕ
 cap = 10000000

@@ -1,9 +1,9 @@
 // Numbers in text, by functions on a slice and a place; the thin reader over them is lines::LineReader. Decimal, of any length, with no leading zero. A number above every limit is held at CAP.
 #![tactic(auto)]
 
-ghost use Rattle.std.specs.Prelude.{◌≡◌, true, ◌+◌, ◌≤◌, ◌<◌, length, drop, IfSome, option_copied};
+ghost use Rattle.std.specs.Prelude.{◌≡◌, true, not, ◌+◌, ◌≤◌, ◌<◌, length, drop, IfSome, option_copied};
 ghost use Rattle.std.specs.List.{position_from};
-ghost use Rattle.texts.specs.Number.{cap, is_digit, ends_field, plain, number_of, ended, held_value, more, number_at};
+ghost use Rattle.texts.specs.Number.{cap, is_digit, ends_field, plain, number_of, ended, all_digits, held_value, more, number_at};
 
 pub const CAP: u32 = 10_000_000;
 
@@ -84,11 +84,30 @@ fn value_of(field: &[u8]) -> Option<u32>
     Some(value)
 }
 
+// How many digits a text begins with, if anything follows them.
+fn digits_of(rest: &[u8]) -> Option<usize>
+    ensures place { result ≡ position_from (λ b. not (is_digit b)) 0 rest.now }
+    ensures inside { IfSome result (λ n. n < length rest.now) }
+{
+    rest.iter().position(|b| !is_digit(*b))
+}
+
+// The digits at a place, if a tab or a line feed ends them. A field is left at its first byte that is no digit, however long it is.
+#[tactic(auto, using(crate::proofs::Runs::digits_past, crate::proofs::Runs::digits_open, crate::proofs::Runs::digits_broken, crate::proofs::Runs::digits_ended))]
+fn digits(s: &[u8], at: usize) -> Option<&[u8]>
+    ensures bytes { option_copied result ≡ all_digits (ended (drop at s.now)) }
+    ensures inside { IfSome result (λ f. at + length f.now < length s.now) }
+{
+    let rest = s.get(at..)?;
+    let long = digits_of(rest)?;
+    ends_field(rest[long]).then_some(&rest[..long])
+}
+
 // The number that is the field at a place.
 pub fn number(s: &[u8], at: usize) -> Option<Num>
     ensures { result ≡ number_at s.now at }
 {
-    let field = field(s, at)?;
+    let field = digits(s, at)?;
     Some(Num {
         value: value_of(field)?,
         next: at + field.len(),
