@@ -4,7 +4,7 @@ use Rattle.std.proofs.Math.Option as maybe
 use Rattle.texts.specs.declared.Num.{Num}
 use Rattle.std.specs.List.{slice_range}
 use Rattle.texts.specs.Number.{held, number_of, digits, ends_field, piece, closed, ended, number_at}
-use Rattle.texts.proofs.Runs.{rest_is}
+use Rattle.texts.proofs.Runs.{rest_is, closed_short}
 use Rattle.lines.specs.declared.Word.{Word}
 use Rattle.lines.specs.declared.Word.TheVariants.{Kit, Size, Cost, Swap, Load}
 use Rattle.lines.specs.declared.Field.{Field}
@@ -87,15 +87,6 @@ near_long (suc k) (b ∷ l) e c = go (ends_field b) (near_long k l) e c
     go : (t : Bool) → (closed (take k l) ≡ false → closed l ≡ true → k ≤ length (piece l)) → cond t true (closed (take k l)) ≡ false → cond t true (closed l) ≡ true → suc k ≤ length (cond {A = List ℕ} t [] (b ∷ piece l))
     go true h e c = cc
     go false h e c = let n = h e c in omega (arith, n)
-
-closed_short : (l : List ℕ) → closed l ≡ true → length (piece l) < length l
-unfolding closed piece
-closed_short [] c = cc
-closed_short (b ∷ l) c = go (ends_field b) (closed_short l) c
-  where
-    go : (t : Bool) → (closed l ≡ true → length (piece l) < length l) → cond t true (closed l) ≡ true → length (cond {A = List ℕ} t [] (b ∷ piece l)) < suc (length l)
-    go true h c = omega arith
-    go false h c = let n = h c in omega (arith, n)
 
 long_word : (p : List ℕ) → 5 ≤ length p → which_word p ≡ None
 long_word p h = rw (word_read p, ne_eqb (length p) 3 (λ e. omega (arith, e)), ne_eqb (length p) 4 (λ e. omega (arith, e)))

@@ -1,8 +1,8 @@
 -- Where a field ends, and what its digits are worth as the loop goes along them. Assumes nothing.
-use Rattle.std.proofs.Common.{◌≡◌, ℕ, suc, ◌+◌, ◌-◌, ◌*◌, min, ◌≤◌, ◌<◌, List, [], ◌∷◌, Bool, true, false, cond, not, ◌&&◌, length, get_or, take, drop, refl, ap, sym, add-one, drop-cons, Option, Some, None, arith, drop_of_length-le, length-drop, take_all, ◌∙◌}
-use Rattle.std.proofs.Math.Option.{some, none}
+use Rattle.std.proofs.Common.{◌≡◌, ℕ, suc, ◌+◌, ◌-◌, ◌*◌, min, ◌≤◌, ◌<◌, List, [], ◌∷◌, Bool, true, false, cond, ◌&&◌, length, get_or, take, drop, refl, ap, sym, add-one, drop-cons, Option, Some, None, arith, drop_of_length-le, length-drop, take_all, ◌∙◌}
 use Rattle.std.specs.List.{position_from, slice_range}
-use Rattle.texts.specs.Number.{cap, is_digit, ends_field, digits, plain, value_after, number_of, piece, closed, ended, all_digits, held_value, more}
+use Rattle.texts.specs.declared.Num.{Num}
+use Rattle.texts.specs.Number.{cap, is_digit, ends_field, digits, plain, value_after, piece, closed, ended, ending, more, run_from, number_at}
 
 -- ## Where a field ends
 
@@ -50,75 +50,29 @@ module _ (s rest : List ℕ) (at : ℕ) (e : rest ≡ slice_range s at (length s
   pub an_end : (n : ℕ) → position_from ends_field 0 rest ≡ Some n → Some (take n rest) ≡ ended (drop at s)
   an_end n f = closed_field rest n _ f (stops 0 rest) ∙ ap ended (e ∙ rest_is s at)
 
--- ## Where the digits of a field end
+-- ## The turns of the loop
 
--- a text has its first byte that is no digit so far from its start, which is the place i of another text
-Digits : ℕ → List ℕ → Option ℕ → Type 0
-Digits i l None = closed l ≡ false
-Digits i l (Some n) =
-    (i ≤ n) × (ends_field (get_or l (n - i) 0) ≡ true → (closed l ≡ true) × (piece l ≡ take (n - i) l) × (digits (piece l) ≡ true))
-    × (ends_field (get_or l (n - i) 0) ≡ false → (closed l && digits (piece l)) ≡ false)
+module _ (v at i : ℕ) (s : List ℕ) (h : i < length s) where
+  pub run_ends : ends_field (get_or s i 0) ≡ true → run_from v (at + i) (drop i s) ≡ ending (at + i) v
+  unfolding run_from
+  run_ends e = rw (drop-cons s i 0 h, e)
 
-and_false : (c : Bool) → (c && false) ≡ false
-and_false true = refl
-and_false false = refl
+  pub run_bad : ends_field (get_or s i 0) ≡ false → is_digit (get_or s i 0) ≡ false → run_from v (at + i) (drop i s) ≡ None
+  unfolding run_from
+  run_bad e d = rw (drop-cons s i 0 h, e, d)
 
--- a digit does not end a field
-digit_on : (b : ℕ) → is_digit b ≡ true → ends_field b ≡ false
-digit_on b e = grind arith
+  pub run_on : ends_field (get_or s i 0) ≡ false → is_digit (get_or s i 0) ≡ true → run_from v (at + i) (drop i s) ≡ run_from (more v (get_or s i 0)) (at + (i + 1)) (drop (i + 1) s)
+  unfolding run_from
+  run_on e d = let m : suc (at + i) ≡ at + suc i = omega arith in rw (add-one i, drop-cons s i 0 h, e, d) (ap (λ (k : ℕ). run_from (more v (get_or s i 0)) k (drop (suc i) s)) m)
 
-digits_cons : (t u : Bool) (i b : ℕ) (l : List ℕ) → is_digit b ≡ t → ends_field b ≡ u → (o : Option ℕ) → Digits (i + 1) l o → Digits i (b ∷ l) (cond (not t) (Some i) o)
-unfolding Digits closed piece digits
-digits_cons true u i b l d e None h = rw (digit_on b d) h
-digits_cons true u i b l d e (Some n) h =
-    let m : n - i ≡ suc (n - (i + 1)) = omega (arith, h.0) in
-    (omega (arith, h.0), rw (m, digit_on b d, d) (λ f. let k = h.1 f in (k.0, ap (λ (q : List ℕ). b ∷ q) k.1, k.2)), rw (m, digit_on b d, d) h.2)
-digits_cons false true i b l d e o h =
-    let m : i - i ≡ 0 = omega arith in
-    (omega arith, rw (m, e) (λ f. (refl, refl, refl)), rw (m, e) (λ f. cc))
-digits_cons false false i b l d e o h =
-    let m : i - i ≡ 0 = omega arith in
-    (omega arith, rw (m, e) (λ f. cc), rw (m, e, d) (λ f. and_false (closed l)))
+pub run_cut : (v at i : ℕ) (s : List ℕ) → length s ≤ i → run_from v at (drop i s) ≡ None
+unfolding run_from
+run_cut v at i s h = rw (drop_of_length-le s h)
 
-digits_run : (i : ℕ) (l : List ℕ) → Digits i l (position_from (λ b. not (is_digit b)) i l)
-unfolding Digits closed
-digits_run i [] = refl
-digits_run i (b ∷ l) = digits_cons (is_digit b) (ends_field b) i b l refl refl (position_from (λ b. not (is_digit b)) (i + 1) l) (digits_run (i + 1) l)
+pub run_past : (s : List ℕ) (at : ℕ) → length s ≤ at → None ≡ run_from 0 at (drop at s)
+run_past s at h = sym (run_cut 0 at at s h)
 
-pub digits_past : (s : List ℕ) (at : ℕ) → length s ≤ at → None ≡ all_digits (ended (drop at s))
-unfolding closed
-digits_past s at h = rw (drop_of_length-le s h)
-
-no_run : (c d : Bool) (p : List ℕ) → digits p ≡ d → (c && d) ≡ false → None ≡ all_digits (cond c (Some p) None)
-no_run true true p h e = cc
-no_run true false p h e = rw h
-no_run false d p h e = refl
-
-digits_none : (l : List ℕ) (o : Option ℕ) → o ≡ None → Digits 0 l o → None ≡ all_digits (ended l)
-unfolding Digits
-digits_none l None e h = rw h
-digits_none l (Some n) e h = absurd (let z : ◌≡◌ {A = ℕ} 0 1 = cc in omega arith)
-
-digits_to : (l : List ℕ) (n : ℕ) (o : Option ℕ) → o ≡ Some n → Digits 0 l o → (t : Bool) → ends_field (get_or l n 0) ≡ t → cond t (Some (take n l)) None ≡ all_digits (ended l)
-unfolding Digits
-digits_to l n None e h t f = absurd (let z : ◌≡◌ {A = ℕ} 0 1 = cc in omega arith)
-digits_to l n (Some k) e h t f = go t (let z : k - 0 ≡ n = let y : k ≡ n = cc in omega (arith, y) in z) f
-  where
-    go : (t : Bool) → k - 0 ≡ n → ends_field (get_or l n 0) ≡ t → cond t (Some (take n l)) None ≡ all_digits (ended l)
-    go true z f = let c = h.1 (ap (λ (m : ℕ). ends_field (get_or l m 0)) z ∙ f) in rw (c.0, c.2, sym z, c.1)
-    go false z f = no_run (closed l) (digits (piece l)) (piece l) refl (h.2 (ap (λ (m : ℕ). ends_field (get_or l m 0)) z ∙ f))
-
-module _ (s rest : List ℕ) (at : ℕ) (e : rest ≡ slice_range s at (length s)) where
-  pub digits_open : position_from (λ b. not (is_digit b)) 0 rest ≡ None → None ≡ all_digits (ended (drop at s))
-  digits_open f = digits_none rest _ f (digits_run 0 rest) ∙ ap (λ (l : List ℕ). all_digits (ended l)) (e ∙ rest_is s at)
-
-  pub digits_broken : (n : ℕ) → position_from (λ b. not (is_digit b)) 0 rest ≡ Some n → ends_field (get_or rest n 0) ≡ false → None ≡ all_digits (ended (drop at s))
-  digits_broken n f g = digits_to rest n _ f (digits_run 0 rest) false g ∙ ap (λ (l : List ℕ). all_digits (ended l)) (e ∙ rest_is s at)
-
-  pub digits_ended : (n : ℕ) → position_from (λ b. not (is_digit b)) 0 rest ≡ Some n → ends_field (get_or rest n 0) ≡ true → Some (take n rest) ≡ all_digits (ended (drop at s))
-  digits_ended n f g = digits_to rest n _ f (digits_run 0 rest) true g ∙ ap (λ (l : List ℕ). all_digits (ended l)) (e ∙ rest_is s at)
-
--- ## What digits are worth
+-- ## What the run is
 
 -- what is above cap stays there
 sat : (x y : ℕ) (l : List ℕ) → min cap x ≡ min cap y → min cap (value_after x l) ≡ min cap (value_after y l)
@@ -126,27 +80,112 @@ unfolding value_after
 sat x y [] e = e
 sat x y (b ∷ l) e = sat (x * 10 + (b - 48)) (y * 10 + (b - 48)) l (omega arith)
 
--- the value of digits after those whose value is v, if all are digits
-pub worth : ℕ → List ℕ → Option ℕ
-worth v l = cond (digits l) (Some (min cap (value_after v l))) None
+-- a run: the end is there, all before it are digits, and the value and the end's place
+said : Bool → Bool → ℕ → ℕ → Option Num
+said c d v next = cond c (cond d (ending next v) None) None
 
-module _ (v i : ℕ) (p : List ℕ) where
-  pub worth_bad : i < length p → is_digit (get_or p i 0) ≡ false → worth v (drop i p) ≡ None
-  unfolding worth digits
-  worth_bad h d = rw (drop-cons p i 0 h, d)
+same_end : (v w x y : ℕ) → v ≡ w → x ≡ y → ending x v ≡ ending y w
+same_end v w x y e f = cc
 
-  pub worth_on : i < length p → is_digit (get_or p i 0) ≡ true → worth v (drop i p) ≡ worth (more v (get_or p i 0)) (drop (i + 1) p)
-  unfolding worth digits value_after
-  worth_on h d = rw (add-one i, drop-cons p i 0 h, d) (ap (λ (x : ℕ). cond (digits (drop (suc i) p)) (Some x) None) (sat (v * 10 + (get_or p i 0 - 48)) (more v (get_or p i 0)) (drop (suc i) p) (omega arith)))
+said_of : (c d : Bool) (v w x y : ℕ) → v ≡ w → x ≡ y → said c d v x ≡ said c d w y
+said_of c d v w x y e f = cc
 
-  pub worth_end : length p ≤ i → v ≤ cap → worth v (drop i p) ≡ Some v
-  unfolding worth digits value_after
-  worth_end h k = let e : min cap v ≡ v = omega arith in rw (drop_of_length-le p h, e)
-
-pub plain_worth : (p : List ℕ) → plain p ≡ true → worth 0 p ≡ held_value (number_of p)
-unfolding worth
-plain_worth p e = go (digits p)
+run_cons : (t u : Bool) (v i b : ℕ) (l : List ℕ) → v ≤ cap
+    → run_from (more v b) (suc i) l ≡ said (closed l) (digits (piece l)) (min cap (value_after (more v b) (piece l))) (suc i + length (piece l))
+    → is_digit b ≡ u
+    → cond t (ending i v) (cond u (run_from (more v b) (suc i) l) None)
+    ≡ said (cond t true (closed l)) (digits (cond t [] (b ∷ piece l))) (min cap (value_after v (cond t [] (b ∷ piece l)))) (i + length (cond t [] (b ∷ piece l)))
+unfolding said digits value_after
+run_cons true u v i b l h e w = same_end v (min cap v) i (i + 0) (omega arith) (omega arith)
+run_cons false true v i b l h e w =
+    rw w (e ∙ said_of (closed l) (digits (piece l)) _ _ _ _ (sat (more v b) (v * 10 + (b - 48)) (piece l) (omega arith)) (omega arith))
+run_cons false false v i b l h e w = rw w (never (closed l))
   where
-    go : (t : Bool) → cond t (Some (min cap (value_after 0 p))) None ≡ held_value (cond (t && plain p) (some (value_after 0 p)) none)
-    go true = rw e
-    go false = refl
+    never : (c : Bool) → None ≡ cond {A = Option Num} c None None
+    never true = refl
+    never false = refl
+
+run_is : (v i : ℕ) (l : List ℕ) → v ≤ cap
+    → run_from v i l ≡ said (closed l) (digits (piece l)) (min cap (value_after v (piece l))) (i + length (piece l))
+unfolding run_from closed piece said
+run_is v i [] h = refl
+run_is v i (b ∷ l) h = run_cons (ends_field b) (is_digit b) v i b l h (run_is (more v b) (suc i) l (omega arith)) refl
+
+said_none : (c d : Bool) (v next : ℕ) → said c d v next ≡ None → (c && d) ≡ false
+unfolding said
+said_none true true v next e = absurd (let z : ◌≡◌ {A = ℕ} 0 1 = cc in omega arith)
+said_none true false v next e = refl
+said_none false d v next e = refl
+
+said_some : (c d : Bool) (v next : ℕ) (n : Num) → said c d v next ≡ Some n → (c ≡ true) × (d ≡ true) × (v ≡ n.value) × (next ≡ n.next)
+unfolding said
+said_some true true v next n e = (refl, refl, cc, cc)
+said_some true false v next n e = absurd (let z : ◌≡◌ {A = ℕ} 0 1 = cc in omega arith)
+said_some false d v next n e = absurd (let z : ◌≡◌ {A = ℕ} 0 1 = cc in omega arith)
+
+length_of : (t : Bool) (b k : ℕ) (l : List ℕ) → length l ≤ k → length (cond t [] (b ∷ l)) ≤ suc k
+length_of true b k l h = omega arith
+length_of false b k l h = omega arith
+
+-- a piece is no longer than its text
+pub piece_length : (l : List ℕ) → length (piece l) ≤ length l
+unfolding piece
+piece_length [] = omega arith
+piece_length (b ∷ l) = length_of (ends_field b) b (length l) (piece l) (piece_length l)
+
+-- a field that ends is shorter than its text
+pub closed_short : (l : List ℕ) → closed l ≡ true → length (piece l) < length l
+unfolding piece closed
+closed_short [] c = cc
+closed_short (b ∷ l) c = go (ends_field b) (closed_short l) c
+  where
+    go : (t : Bool) → (closed l ≡ true → length (piece l) < length l) → cond t true (closed l) ≡ true → length (cond {A = List ℕ} t [] (b ∷ piece l)) < suc (length l)
+    go true h c = omega arith
+    go false h c = let n = h c in omega (arith, n)
+
+piece_first : (l : List ℕ) → take (length (piece l)) l ≡ piece l
+unfolding piece
+piece_first [] = refl
+piece_first (b ∷ l) = go (ends_field b) (piece_first l)
+  where
+    go : (t : Bool) → take (length (piece l)) l ≡ piece l → take (length (cond {A = List ℕ} t [] (b ∷ piece l))) (b ∷ l) ≡ cond t [] (b ∷ piece l)
+    go true e = refl
+    go false e = ap (λ (p : List ℕ). b ∷ p) e
+
+-- what `number` has of the run at a place of s
+module _ (s : List ℕ) (at : ℕ) where
+  abbrev l : List ℕ
+  l = drop at s
+
+  pub none_there : None ≡ run_from 0 at (drop at s) → None ≡ number_at s at
+  none_there e = go (closed l) (digits (piece l)) refl refl (said_none (closed l) (digits (piece l)) _ _ (sym (run_is 0 at l (omega arith)) ∙ sym e))
+    where
+      go : (c d : Bool) → closed l ≡ c → digits (piece l) ≡ d → (c && d) ≡ false → None ≡ number_at s at
+      go true true f g h = cc
+      go true false f g h = rw (f, g)
+      go false d f g h = rw f
+
+  module _ (n : Num) (e : Some n ≡ run_from 0 at (drop at s)) where
+    parts : (closed l ≡ true) × (digits (piece l) ≡ true) × (min cap (value_after 0 (piece l)) ≡ n.value) × (at + length (piece l) ≡ n.next)
+    parts = said_some (closed l) (digits (piece l)) _ _ n (sym (run_is 0 at l (omega arith)) ∙ sym e)
+
+    inside : n.next ≤ length s
+    inside = go (piece_length l) (closed_short l parts.0)
+      where
+        go : length (piece l) ≤ length l → length (piece l) < length l → n.next ≤ length s
+        go p q = let r = parts.3 in omega (arith, p, q, r, length-drop at s)
+
+    pub starts_before : at ≤ n.next
+    starts_before = let r = parts.3 in omega (arith, r)
+
+    pub ends_within : n.next ≤ length s
+    ends_within = inside
+
+    part_is : slice_range s at n.next ≡ piece l
+    part_is = let r : n.next - at ≡ length (piece l) = let q = parts.3 in omega (arith, q) in ap (λ (k : ℕ). take k (drop at s)) r ∙ piece_first l
+
+    pub ill : plain (slice_range s at n.next) ≡ false → None ≡ number_at s at
+    ill w = rw (parts.0, parts.1, sym (ap plain part_is) ∙ w)
+
+    pub well : plain (slice_range s at n.next) ≡ true → Some n ≡ number_at s at
+    well w = rw (parts.0, parts.1, sym (ap plain part_is) ∙ w, parts.2, parts.3)

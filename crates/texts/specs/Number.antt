@@ -46,11 +46,6 @@ closed (b ∷ l) = cond (ends_field b) true (closed l)
 abbrev pub ended : List ℕ → std.Option (List ℕ)
 ended l = cond (closed l) (Some (piece l)) None
 
--- a field, if it is all digits
-abbrev pub all_digits : std.Option (List ℕ) → std.Option (List ℕ)
-all_digits None = None
-all_digits (Some p) = cond (digits p) (Some p) None
-
 -- the program holds a number at cap, which is above every limit
 abbrev pub cap : ℕ
 cap = 10000000
@@ -79,3 +74,7 @@ number_at s at = number_in (drop at s) at
 -- one digit more after those whose value is v
 abbrev pub more : ℕ → ℕ → ℕ
 more v b = min cap (v * 10 + (b - 48))
+
+unfoldable pub run_from : ℕ → ℕ → List ℕ → std.Option Num
+run_from v at [] = None
+run_from v at (b ∷ l) = cond (ends_field b) (ending at v) (cond (is_digit b) (run_from (more v b) (suc at) l) None)

@@ -1,9 +1,9 @@
 // Numbers in text, by functions on a slice and a place; the thin reader over them is lines::LineReader. Decimal, of any length, with no leading zero. A number above every limit is held at CAP.
 #![tactic(auto)]
 
-ghost use Rattle.std.specs.Prelude.{◌≡◌, true, not, ◌+◌, ◌≤◌, ◌<◌, length, drop, IfSome, option_copied};
+ghost use Rattle.std.specs.Prelude.{◌≡◌, true, ◌+◌, ◌≤◌, ◌<◌, length, drop, IfSome, option_copied};
 ghost use Rattle.std.specs.List.{position_from};
-ghost use Rattle.texts.specs.Number.{cap, is_digit, ends_field, plain, number_of, ended, all_digits, held_value, more, number_at};
+ghost use Rattle.texts.specs.Number.{cap, is_digit, ends_field, plain, ended, more, run_from, number_at};
 
 pub const CAP: u32 = 10_000_000;
 
@@ -66,50 +66,34 @@ fn is_plain(field: &[u8]) -> bool
     !matches!(field, [] | [b'0', _, ..])
 }
 
-// The value of a field, if it is a number.
-#[tactic(auto, using(crate::proofs::Runs::worth_bad, crate::proofs::Runs::worth_on, crate::proofs::Runs::worth_end, crate::proofs::Runs::plain_worth))]
-fn value_of(field: &[u8]) -> Option<u32>
-    ensures { result ≡ held_value (number_of field.now) }
+// What the digits from a place to the end of its field are worth, in one pass: it ends at the first byte that is no digit, however long
+// the field is.
+#[tactic(auto, using(crate::proofs::Runs::run_past, crate::proofs::Runs::run_ends, crate::proofs::Runs::run_bad, crate::proofs::Runs::run_on, crate::proofs::Runs::run_cut, crate::proofs::Runs::rest_is))]
+fn run_at(s: &[u8], at: usize) -> Option<Num>
+    ensures { result ≡ run_from 0 at (drop at s.now) }
 {
-    if !is_plain(field) {
-        return None;
-    }
+    let rest = s.get(at..)?;
     let mut value = 0;
-    for &b in field {
+    for (i, &b) in rest.iter().enumerate() {
+        if ends_field(b) {
+            return Some(Num {
+                value,
+                next: at + i,
+            });
+        }
         if !is_digit(b) {
             return None;
         }
         value = more_by(value, b);
     }
-    Some(value)
-}
-
-// How many digits a text begins with, if anything follows them.
-fn digits_of(rest: &[u8]) -> Option<usize>
-    ensures place { result ≡ position_from (λ b. not (is_digit b)) 0 rest.now }
-    ensures inside { IfSome result (λ n. n < length rest.now) }
-{
-    rest.iter().position(|b| !is_digit(*b))
-}
-
-// The digits at a place, if a tab or a line feed ends them. A field is left at its first byte that is no digit, however long it is.
-#[tactic(auto, using(crate::proofs::Runs::digits_past, crate::proofs::Runs::digits_open, crate::proofs::Runs::digits_broken, crate::proofs::Runs::digits_ended))]
-fn digits(s: &[u8], at: usize) -> Option<&[u8]>
-    ensures bytes { option_copied result ≡ all_digits (ended (drop at s.now)) }
-    ensures inside { IfSome result (λ f. at + length f.now < length s.now) }
-{
-    let rest = s.get(at..)?;
-    let long = digits_of(rest)?;
-    ends_field(rest[long]).then_some(&rest[..long])
+    None
 }
 
 // The number that is the field at a place.
+#[tactic(auto, using(crate::proofs::Runs::none_there, crate::proofs::Runs::starts_before, crate::proofs::Runs::ends_within, crate::proofs::Runs::ill, crate::proofs::Runs::well))]
 pub fn number(s: &[u8], at: usize) -> Option<Num>
     ensures { result ≡ number_at s.now at }
 {
-    let field = digits(s, at)?;
-    Some(Num {
-        value: value_of(field)?,
-        next: at + field.len(),
-    })
+    let num = run_at(s, at)?;
+    is_plain(&s[at..num.next]).then_some(num)
 }
