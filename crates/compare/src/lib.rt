@@ -26,7 +26,15 @@ pub fn lex_less(x: &[u16], y: &[u16]) -> bool
     requires { length x.now ≡ length y.now }
     ensures { Decides (Lex x.now y.now) result }
 {
-    x < y
+    for (a, b) in x.iter().zip(y) {
+        if a < b {
+            return true;
+        }
+        if b < a {
+            return false;
+        }
+    }
+    false
 }
 
 // Whether x comes before y in the cost order.
