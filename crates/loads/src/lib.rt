@@ -25,7 +25,11 @@ pub fn fits_in(h: &[u16], x: &[u16]) -> bool
     requires { length h.now ≡ length x.now }
     ensures { Decides (Fits h.now x.now) result }
 {
-    h.iter().zip(x).fold(true, |fits, (a, b)| fits & (a <= b))
+    let mut fits = true;
+    for (k, count) in x.iter().enumerate() {
+        fits &= h[k] <= *count;
+    }
+    fits
 }
 
 // What one part of a kind counts for: its size, its cost, its weight. A trait of our own, since `Into<i64>` tells a generic sum neither
@@ -68,8 +72,8 @@ pub fn measure_of<M: Measure>(measures: &[M], x: &[u16]) -> i64
     ensures { result ≡ cost (map M.value measures.now) x.now }
 {
     let mut sum = 0;
-    for (measure, count) in measures.iter().zip(x) {
-        sum += i64::from(*count) * measure.wide();
+    for (k, count) in x.iter().enumerate() {
+        sum += i64::from(*count) * measures[k].wide();
     }
     sum
 }
