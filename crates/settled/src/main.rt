@@ -1,13 +1,14 @@
 // The lines of the worked table that settle and earlier-of-two reach.
+// It writes by tell::Stdout, not println!, so it goes on past a failed write, ends with 0 and rests on `write` alone.
 #![tactic(auto)]
 
 use settle::Table;
-use std::io;
-use tell::Counts;
+use std::fmt::Write;
+use tell::{Counts, Stdout};
 use terms::Kit;
 
 // The answer and the load, as in the table.
-fn show(rt: &impl Print, label: &str, table: Table, load: &mut [u16]) -> io::Result<()> {
+fn show(label: &str, table: Table, load: &mut [u16]) {
     let answer = settle::settle(
         table.kit,
         table.sizes,
@@ -17,10 +18,10 @@ fn show(rt: &impl Print, label: &str, table: Table, load: &mut [u16]) -> io::Res
         load,
     );
     let load = Counts(load);
-    match answer {
-        Ok(()) => println!(rt; "{label} done{load}"),
-        Err(refused) => println!(rt; "{label} refused {}:{load}", u32::from(refused.why)),
-    }
+    let _ = match answer {
+        Ok(()) => writeln!(Stdout, "{label} done{load}"),
+        Err(refused) => writeln!(Stdout, "{label} refused {}:{load}", u32::from(refused.why)),
+    };
 }
 
 // Kit A with its finished table.
@@ -60,53 +61,46 @@ const KIT_N: Table = Table {
 };
 
 // Which of two loads comes first; only y may have no part of kind 1.
-fn show_earlier(
-    rt: &impl Print,
-    label: &str,
-    costs: &[i32],
-    x: &[u16],
-    y: &[u16],
-) -> io::Result<()> {
+fn show_earlier(label: &str, costs: &[i32], x: &[u16], y: &[u16]) {
     let first = match compare::earlier(12, costs, x, y) {
         [] => "empty",
         [0, ..] => "second",
         _ => "first",
     };
-    println!(rt; "{label} {first}")
+    let _ = writeln!(Stdout, "{label} {first}");
 }
 
 // Twelve kinds of 65,535 parts against nine, all at one cost: a sum of 32 bits would turn the order about.
-fn far(rt: &impl Print, label: &str, cost: i32) -> io::Result<()> {
+fn far(label: &str, cost: i32) {
     let x = [65_535u16; 12];
     let mut y = x;
     y[..3].fill(0);
-    show_earlier(rt, label, &[cost; 12], &x, &y)
+    show_earlier(label, &[cost; 12], &x, &y);
 }
 
-fn main(rt: HostRuntime) -> io::Result<()> {
-    show(&rt, "P6", KIT_A, &mut [0, 2, 0, 1])?;
-    show(&rt, "P7", KIT_A, &mut [1, 0, 0, 1])?;
-    show(&rt, "P7", KIT_A, &mut [0, 1, 1, 0])?;
-    show(&rt, "P8", KIT_A, &mut [1, 0, 0, 2])?;
-    show(&rt, "P8", KIT_A, &mut [0, 0, 3, 0])?;
-    show(&rt, "P9", KIT_T, &mut [2, 3, 0])?;
-    show(&rt, "P10", KIT_T, &mut [0, 3, 0])?;
-    show(&rt, "P11", KIT_N, &mut [2, 3])?;
+fn main() {
+    show("P6", KIT_A, &mut [0, 2, 0, 1]);
+    show("P7", KIT_A, &mut [1, 0, 0, 1]);
+    show("P7", KIT_A, &mut [0, 1, 1, 0]);
+    show("P8", KIT_A, &mut [1, 0, 0, 2]);
+    show("P8", KIT_A, &mut [0, 0, 3, 0]);
+    show("P9", KIT_T, &mut [2, 3, 0]);
+    show("P10", KIT_T, &mut [0, 3, 0]);
+    show("P11", KIT_N, &mut [2, 3]);
     let kit = Kit::of(2, 4);
-    show(&rt, "P11", Table { kit, ..KIT_N }, &mut [2, 3])?;
-    show(&rt, "P12", KIT_A, &mut [0, 0, 0, 0])?;
-    show(&rt, "P12", KIT_T, &mut [0, 0, 0])?;
-    show(&rt, "P12", KIT_N, &mut [0, 0])?;
+    show("P11", Table { kit, ..KIT_N }, &mut [2, 3]);
+    show("P12", KIT_A, &mut [0, 0, 0, 0]);
+    show("P12", KIT_T, &mut [0, 0, 0]);
+    show("P12", KIT_N, &mut [0, 0]);
     for rules in [[1, 1, 1, 1], [1, 0, 0, 0]] {
         let rules = &rules;
-        show(&rt, "13", Table { rules, ..KIT_N }, &mut [2, 3])?;
+        show("13", Table { rules, ..KIT_N }, &mut [2, 3]);
     }
     for cost in [-1_000_000, -1_000_001, 1_000_001] {
         let costs = &[cost, -2];
-        show(&rt, "14", Table { costs, ..KIT_N }, &mut [2, 3])?;
+        show("14", Table { costs, ..KIT_N }, &mut [2, 3]);
     }
     for cost in [1_000_000, -1_000_000, 1_000_001, 0] {
-        far(&rt, "14", cost)?;
+        far("14", cost);
     }
-    Ok(())
 }

@@ -1,7 +1,25 @@
-// Loads as the programs that the gate runs write them.
+// Loads as the programs that the gate runs write them, and where they write.
 #![tactic(auto)]
 
+ghost use Rattle.std.specs.Prelude.{IsOk};
+
 use std::fmt;
+
+// The standard output.
+pub const STDOUT: i32 = 1;
+
+// A writer to it, each piece by a call of its own. What a write answers is passed over, and what follows is written all the same.
+#[derive(Clone, Copy)]
+pub struct Stdout;
+
+impl fmt::Write for Stdout {
+    fn write_str(&mut self, s: &str) -> fmt::Result
+        ensures goes_on { IsOk result }
+    {
+        io::write_all(STDOUT, s.as_bytes());
+        Ok(())
+    }
+}
 
 // Counts, written with a blank before each.
 #[derive(Clone, Copy)]
