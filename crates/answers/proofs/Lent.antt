@@ -39,7 +39,7 @@ module _ (n k : ℕ) (loads : List ℕ) (lies : k * n ≤ length loads) where
     made_lent (Err refused, rules) bytes e = e
 
     -- the same of what is written for the sheet, and of the room that is lent for its table
-    pub shown_lent : (costs : List ℤ) (swaps : List ℕ) {lent room before after : List ℕ} → 0 < n → lent ≡ room → Written (Show n bound sizes costs swaps lent (take (k * n) loads) (length (take (k * n) loads) / n) first) before after → Written (Show n bound sizes costs swaps room loads k first) before after
-    shown_lent costs swaps {room = room} {before} {after} some e w =
-        let p : Written (Show n bound sizes costs swaps room (take (k * n) loads) k first) before after = rw (lent_count some, e) at w in
+    pub shown_lent : (Paper : Type 0) (Stored : List ℕ → Paper → Paper → Type 0) (costs : List ℤ) (swaps : List ℕ) {lent room : List ℕ} {before after : Paper} → 0 < n → lent ≡ room → Written Stored (Show n bound sizes costs swaps lent (take (k * n) loads) (length (take (k * n) loads) / n) first) before after → Written Stored (Show n bound sizes costs swaps room loads k first) before after
+    shown_lent Paper Stored costs swaps {room = room} {before} {after} some e w =
+        let p : Written Stored (Show n bound sizes costs swaps room (take (k * n) loads) k first) before after = rw (lent_count some, e) at w in
         record { bytes = p.bytes; right = (p.right.0, p.right.1, made_lent p.right.0 p.bytes p.right.2); stored = p.stored }

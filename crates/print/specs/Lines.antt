@@ -1,5 +1,6 @@
 -- The lines that the program prints, as lists of bytes.
 use Rattle.std.specs.Prelude.{ℕ, zero, suc, ◌+◌, ◌*◌, ◌/◌, ◌%◌, ◌≤◌, cond, ◌≡◌, List, [], ◌∷◌, ◌++◌, ltb, length}
+use Rattle.std.proofs.lemmas.List.Edits.{sets}
 
 -- the decimal digits of n, the most significant first, with no leading zero; n has at most `more` digits besides the first
 abbrev pub spelled : ℕ → ℕ → List ℕ
@@ -49,10 +50,15 @@ done_most counts = 5 + 6 * counts
 abbrev pub refused_most : ℕ
 refused_most = 50
 
--- after what stands there is room for the bytes, where there is room for so many in all
-abbrev pub Room : List ℕ → List ℕ → ℕ → Type 0
-Room bytes before room = length before + length bytes ≤ room
+-- from the place on there is room for the bytes, where there is room for so many in all
+abbrev pub Room : List ℕ → ℕ → ℕ → Type 0
+Room bytes place room = place + length bytes ≤ room
 
 -- the bytes were appended: they stand after all that stood before, which is unchanged
 abbrev pub Stored : List ℕ → List ℕ → List ℕ → Type 0
 Stored bytes before after = after ≡ before ++ bytes
+
+-- the bytes were stored from `at` on, nothing else was changed, and r is the place after them
+pub record StoredAt (bytes : List ℕ) (at : ℕ) (before : List ℕ) (r : ℕ) (after : List ℕ) : Type 0 where
+  pub next : r ≡ at + length bytes
+  pub holds : after ≡ sets before at bytes

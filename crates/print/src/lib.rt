@@ -1,40 +1,31 @@
-// The lines that the program prints, each appended to a vector of fixed room.
+// The lines that the program prints, each stored on a paper: a vector of fixed room, or a lent slice.
 #![tactic(auto)]
 
 ghost use Rattle.std.specs.Prelude.{◌≡◌, ◌+◌, ◌≤◌, length};
-ghost use Rattle.arrayvec.specs.ArrayVec.{array_vec_len};
-ghost use Rattle.print.specs.Lines.{field, counts_end, Room, Stored, rule_line, done_line, refused_line};
+ghost use Rattle.print.specs.Lines.{field, counts_end, Room, rule_line, done_line, refused_line};
 ghost use Rattle.print.specs.Lines.{rule_most, done_most, refused_most};
 
-use arrayvec::ArrayVec;
-use itoa::Buffer;
+mod paper;
 
-// The bytes.
-fn append<const N: usize>(out: &mut ArrayVec<u8, N>, bytes: &[u8])
-    requires { Room bytes.now out.old.items N }
-    ensures stored { Stored bytes.now out.old.items out.new.items }
-    ensures len { array_vec_len out.new ≡ array_vec_len out.old + length bytes.now }
-{
-    out.try_extend_from_slice(bytes).unwrap();
-}
+use itoa::Buffer;
+pub use paper::{Page, Paper};
 
 // A tab and the number.
-#[tactic(auto, using(crate::proofs::Digits::decimal_digits))]
-fn field<const N: usize>(out: &mut ArrayVec<u8, N>, n: usize)
-    requires { Room (field n) out.old.items N }
-    ensures stored { Stored (field n) out.old.items out.new.items }
-    ensures len { array_vec_len out.new ≡ array_vec_len out.old + length (field n) }
+fn field<P: Paper>(out: &mut P, n: usize)
+    requires { Room (field n) (P.place out.old) (P.room out.old) }
+    ensures stored { P.stored (field n) out.old out.new }
+    ensures len { P.place out.new ≡ P.place out.old + length (field n) }
 {
     let mut digits = Buffer::new();
     out.push(b'\t');
-    append(out, digits.format(n).as_bytes());
+    out.append(digits.format(n).as_bytes());
 }
 
 // The counts, and the end of the line.
-fn end_line<const N: usize>(out: &mut ArrayVec<u8, N>, counts: &[u16])
-    requires { Room (counts_end counts.now) out.old.items N }
-    ensures stored { Stored (counts_end counts.now) out.old.items out.new.items }
-    ensures len { array_vec_len out.new ≡ array_vec_len out.old + length (counts_end counts.now) }
+fn end_line<P: Paper>(out: &mut P, counts: &[u16])
+    requires { Room (counts_end counts.now) (P.place out.old) (P.room out.old) }
+    ensures stored { P.stored (counts_end counts.now) out.old out.new }
+    ensures len { P.place out.new ≡ P.place out.old + length (counts_end counts.now) }
 {
     for count in counts {
         field(out, usize::from(*count));
@@ -43,36 +34,33 @@ fn end_line<const N: usize>(out: &mut ArrayVec<u8, N>, counts: &[u16])
 }
 
 // A row of a rule table, head then tail, after its head's grade.
-#[tactic(auto, using(crate::proofs::Lengths::field_most, crate::proofs::Lengths::counts_end_most))]
-pub fn rule_line<const N: usize>(out: &mut ArrayVec<u8, N>, grade: usize, row: &[u16])
-    requires { array_vec_len out.old + rule_most (length row.now) ≤ N }
-    ensures stored { Stored (rule_line grade row.now) out.old.items out.new.items }
-    ensures upper_bound { array_vec_len out.new ≤ array_vec_len out.old + rule_most (length row.now) }
+pub fn rule_line<P: Paper>(out: &mut P, grade: usize, row: &[u16])
+    requires { P.place out.old + rule_most (length row.now) ≤ P.room out.old }
+    ensures stored { P.stored (rule_line grade row.now) out.old out.new }
+    ensures upper_bound { P.place out.new ≤ P.place out.old + rule_most (length row.now) }
 {
-    append(out, b"rule");
+    out.append(b"rule");
     field(out, grade);
     end_line(out, row);
 }
 
 // A settled load.
-#[tactic(auto, using(crate::proofs::Lengths::counts_end_most))]
-pub fn done_line<const N: usize>(out: &mut ArrayVec<u8, N>, load: &[u16])
-    requires { array_vec_len out.old + done_most (length load.now) ≤ N }
-    ensures stored { Stored (done_line load.now) out.old.items out.new.items }
-    ensures upper_bound { array_vec_len out.new ≤ array_vec_len out.old + done_most (length load.now) }
+pub fn done_line<P: Paper>(out: &mut P, load: &[u16])
+    requires { P.place out.old + done_most (length load.now) ≤ P.room out.old }
+    ensures stored { P.stored (done_line load.now) out.old out.new }
+    ensures upper_bound { P.place out.new ≤ P.place out.old + done_most (length load.now) }
 {
-    append(out, b"done");
+    out.append(b"done");
     end_line(out, load);
 }
 
 // A refusal: its number, and the line of the sheet. The number may be any, as the contract says; a reason would ask more of the caller.
-#[tactic(auto, using(crate::proofs::Lengths::field_most))]
-pub fn refused_line<const N: usize>(out: &mut ArrayVec<u8, N>, why: usize, line: usize)
-    requires { array_vec_len out.old + refused_most ≤ N }
-    ensures stored { Stored (refused_line why line) out.old.items out.new.items }
-    ensures upper_bound { array_vec_len out.new ≤ array_vec_len out.old + refused_most }
+pub fn refused_line<P: Paper>(out: &mut P, why: usize, line: usize)
+    requires { P.place out.old + refused_most ≤ P.room out.old }
+    ensures stored { P.stored (refused_line why line) out.old out.new }
+    ensures upper_bound { P.place out.new ≤ P.place out.old + refused_most }
 {
-    append(out, b"refused");
+    out.append(b"refused");
     field(out, why);
     field(out, line);
     end_line(out, &[]);

@@ -1,9 +1,9 @@
 -- A row of a flat table as one part, and its line. Assumes nothing.
-use Rattle.std.proofs.Common.{ℕ, ◌+◌, ◌*◌, ◌-◌, ◌≡◌, ap, ap₂, subst, ◌∙◌, List, ◌++◌, take, drop, take-add, drop-drop, arith}
+use Rattle.std.proofs.Common.{ℕ, ◌+◌, ◌*◌, ◌-◌, ◌≡◌, ap, ap₂, ◌∙◌, List, ◌++◌, take, drop, take-add, drop-drop, arith}
 use Rattle.terms.specs.Load.{grade}
 use Rattle.terms.specs.Flat.{left_at, right_at, row_at}
 use Rattle.laws.specs.Flat.{part_is}
-use Rattle.print.specs.Lines.{rule_line, Stored}
+use Rattle.print.specs.Lines.{rule_line}
 use Rattle.report.specs.Report.{row_line}
 
 -- the part that holds row r is its two sides
@@ -16,6 +16,5 @@ row_part n flat r =
     ∙ ap (λ (l : List ℕ). left_at n flat r ++ take n l) (drop-drop n (r * (2 * n)) flat)
 
 -- a line with the grade of the left side, and that part, is the row's
-pub line_of_row : (n : ℕ) (sizes flat : List ℕ) (r g : ℕ) (head o o' : List ℕ) → head ≡ left_at n flat r → g ≡ grade sizes head → Stored (rule_line g (take (r * (2 * n) + 2 * n - r * (2 * n)) (drop (r * (2 * n)) flat))) o o' → Stored (row_line sizes (row_at n flat r)) o o'
-line_of_row n sizes flat r g head o o' left e p =
-    subst (λ (l : List ℕ). Stored l o o') (ap₂ rule_line (e ∙ ap (grade sizes) left) (row_part n flat r)) p
+pub line_of_row : (n : ℕ) (sizes flat : List ℕ) (r g : ℕ) (head : List ℕ) → head ≡ left_at n flat r → g ≡ grade sizes head → rule_line g (take (r * (2 * n) + 2 * n - r * (2 * n)) (drop (r * (2 * n)) flat)) ≡ row_line sizes (row_at n flat r)
+line_of_row n sizes flat r g head left e = ap₂ rule_line (e ∙ ap (grade sizes) left) (row_part n flat r)

@@ -7,7 +7,7 @@ use Rattle.terms.specs.Limits.{most_kinds}
 use Rattle.terms.specs.Settling.{Settles}
 use Rattle.settle.specs.Ready.{Ready}
 use Rattle.settle.specs.declared.Table.{Table}
-use Rattle.print.specs.Lines.{each, rule_line, done_line, refused_line, rule_most, done_most, Stored}
+use Rattle.print.specs.Lines.{each, rule_line, done_line, refused_line, rule_most, done_most}
 
 -- the line of a row, and the lines of a table
 abbrev pub row_line : List ℕ → Row → List ℕ
@@ -46,8 +46,8 @@ pub data Lines (Line : ℕ → List ℕ → Type 0) : ℕ → List ℕ → Type 
   none : Lines Line zero []
   more : {k : ℕ} {before last : List ℕ} → Lines Line k before → Line k last → Lines Line (suc k) (before ++ last)
 
--- such bytes were appended
-pub record Written (Right : List ℕ → Type 0) (before after : List ℕ) : Type 0 where
+-- such bytes were stored, as the paper says what that is
+pub record Written {Paper : Type 0} (Stored : List ℕ → Paper → Paper → Type 0) (Right : List ℕ → Type 0) (before after : Paper) : Type 0 where
   pub bytes : List ℕ
   pub right : Right bytes
   pub stored : Stored bytes before after

@@ -8,7 +8,7 @@ show-requires g c =
     let a = c.args in
     let lies : a.counts.loads * a.counts.kinds ≤ length a.loads.now = search rules in
     let has = c.requires.0 in
-    (search rules, (rw (lent_count a.counts.kinds a.counts.loads a.loads.now lies has.kinds.0) has.loads, omega (arith, has.swaps), c.requires.1))
+    (rw (lent_count a.counts.kinds a.counts.loads a.loads.now lies has.kinds.0) has.loads, omega (arith, has.swaps), c.requires.1)
 
 pub returns : goal.returns
 returns g c =
@@ -17,4 +17,4 @@ returns g c =
     let rows = 256 * (2 * n) in
     let lies : a.counts.loads * n ≤ length a.loads.now = search rules in
     let room = take-replicate {X = ℕ} rows 6144 0 (omega (arith, c.requires.0.kinds.1)) in
-    record { written = shown_lent n a.counts.loads a.loads.now lies a.counts.bound _ _ _ _ c.requires.0.kinds.0 room c.show.ensures.written }
+    record { written = shown_lent n a.counts.loads a.loads.now lies a.counts.bound _ _ _ g.P.Paper.stored _ _ c.requires.0.kinds.0 room c.show.ensures.written; upper_bound = c.show.ensures.upper_bound }

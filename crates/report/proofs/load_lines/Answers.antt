@@ -15,7 +15,7 @@ loop-i-init g c =
       within = omega (arith, e);
       width = search rules;
       rest = rw e (search rules);
-      written = rw e (written_none (λ k. LineBy a.table.now (a.first + k) (load_at a.table.now.kit.kinds a.loads.now k)) a.out.now.items);
+      written = rw e (written_none _ g.P.Paper.stored (λ k. LineBy a.table.now (a.first + k) (load_at a.table.now.kit.kinds a.loads.now k)) a.out.now (g.met.P.Paper.stores_none a.out.now));
       short = omega (arith, e);
     }
 
@@ -36,8 +36,8 @@ loop-i-preserved g c =
       width = search rules;
       rest = rw next (later_loads n i a.loads.now _ _ left long);
       written = rw next
-          (written_next (λ k. LineBy a.table.now (a.first + k) (load_at n a.loads.now k)) i kept.written
-          (written_of (LineBy a.table.now (a.first + i)) (first_load n i a.loads.now _ _ left long) (rw s.1 at c.load_line.ensures.written)));
+          (written_next _ g.P.Paper.stored g.met.P.Paper.stores_both (λ k. LineBy a.table.now (a.first + k) (load_at n a.loads.now k)) i _ _ _ kept.written
+          (written_of _ g.P.Paper.stored (LineBy a.table.now (a.first + i)) _ _ (first_load n i a.loads.now _ _ left long) (rw s.1 at c.load_line.ensures.written)));
       short = omega (arith, next, kept.short, c.load_line.ensures.upper_bound);
     }
 

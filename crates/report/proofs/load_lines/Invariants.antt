@@ -11,6 +11,6 @@ invariant-loop-i g l = record {
   within : enumerate_count l.i-iterator ≤ length l.loads / l.table.kit.kinds;
   width : chunks_exact_size (enumerate_source l.i-iterator) ≡ l.table.kit.kinds;
   rest : chunks_exact_rest (enumerate_source l.i-iterator) ≡ drop (enumerate_count l.i-iterator * l.table.kit.kinds) l.loads;
-  written : Written (LinesBy l.table l.loads l.first (enumerate_count l.i-iterator)) l.initial.out.items l.out.items;
-  short : length l.out.items ≤ length l.initial.out.items + enumerate_count l.i-iterator * load_most;
+  written : Written g.P.Paper.stored (LinesBy l.table l.loads l.first (enumerate_count l.i-iterator)) l.initial.out l.out;
+  short : g.P.Paper.place l.out ≤ g.P.Paper.place l.initial.out + enumerate_count l.i-iterator * load_most;
 }
