@@ -11,6 +11,7 @@ use itoa::Buffer;
 pub use paper::{Page, Paper};
 
 // A tab and the number.
+#[tactic(auto, using(crate::proofs::Digits::decimal_digits))]
 fn field<P: Paper>(out: &mut P, n: usize)
     requires { Room (field n) (P.place out.old) (P.room out.old) }
     ensures stored { P.stored (field n) out.old out.new }
@@ -34,6 +35,7 @@ fn end_line<P: Paper>(out: &mut P, counts: &[u16])
 }
 
 // A row of a rule table, head then tail, after its head's grade.
+#[tactic(auto, using(crate::proofs::Lengths::field_most, crate::proofs::Lengths::counts_end_most))]
 pub fn rule_line<P: Paper>(out: &mut P, grade: usize, row: &[u16])
     requires { P.place out.old + rule_most (length row.now) ≤ P.room out.old }
     ensures stored { P.stored (rule_line grade row.now) out.old out.new }
@@ -45,6 +47,7 @@ pub fn rule_line<P: Paper>(out: &mut P, grade: usize, row: &[u16])
 }
 
 // A settled load.
+#[tactic(auto, using(crate::proofs::Lengths::counts_end_most))]
 pub fn done_line<P: Paper>(out: &mut P, load: &[u16])
     requires { P.place out.old + done_most (length load.now) ≤ P.room out.old }
     ensures stored { P.stored (done_line load.now) out.old out.new }
@@ -55,6 +58,7 @@ pub fn done_line<P: Paper>(out: &mut P, load: &[u16])
 }
 
 // A refusal: its number, and the line of the sheet. The number may be any, as the contract says; a reason would ask more of the caller.
+#[tactic(auto, using(crate::proofs::Lengths::field_most))]
 pub fn refused_line<P: Paper>(out: &mut P, why: usize, line: usize)
     requires { P.place out.old + refused_most ≤ P.room out.old }
     ensures stored { P.stored (refused_line why line) out.old out.new }

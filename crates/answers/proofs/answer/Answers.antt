@@ -1,4 +1,4 @@
-use Rattle.std.proofs.Common.{arith, rules}
+use Rattle.std.proofs.Common.{arith}
 use Rattle.sheet.specs.Sheet.{Result}
 use Rattle.answers.proofs.Writing.{answer_sheet, answer_refused}
 use Rattle.answers.proofs.Passed.{reading_counted}

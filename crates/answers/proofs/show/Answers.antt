@@ -1,4 +1,4 @@
-use Rattle.std.proofs.Common.{◌/◌, length, arith, rules}
+use Rattle.std.proofs.Common.{◌/◌, length, arith}
 use Rattle.answers.proofs.Writing.{shown_rows, shown_refused}
 use Rattle.answers.proofs.Passed.{completing_ready}
 use Rattle.answers.proofs.show.Goals as goal

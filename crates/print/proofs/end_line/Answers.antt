@@ -1,4 +1,4 @@
-use Rattle.std.proofs.Common.{ℕ, ◌≡◌, subst, List, [], ◌∷◌, get_or, take, take_all, arith, rules}
+use Rattle.std.proofs.Common.{ℕ, subst, List, [], ◌∷◌, get_or, take}
 use Rattle.print.specs.Lines.{field, fields}
 use Rattle.print.proofs.Runs.{each_room, each_next}
 use Rattle.print.proofs.end_line.Goals as goal

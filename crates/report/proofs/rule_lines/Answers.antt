@@ -1,21 +1,9 @@
-use Rattle.std.proofs.Common.{[], arith, rules}
+use Rattle.std.proofs.Common.{arith}
 use Rattle.terms.specs.Flat.{row_at, table_of}
 use Rattle.laws.specs.Numbered.{numbered_more}
 use Rattle.print.proofs.Runs.{each_snoc}
-use Rattle.report.specs.Report.{row_line, rule_lines}
+use Rattle.report.specs.Report.{row_line}
 use Rattle.report.proofs.rule_lines.Goals as goal
-
-pub loop-r-init : goal.loop-r-init
-loop-r-init g c = record { stored = g.met.P.Paper.stores_none c.args.out.now; short = omega arith }
-
-pub rule_at-requires : goal.rule_at-requires
-rule_at-requires g c =
-    let t = c.args.table.now in
-    let x = c.loop-r in
-    record {
-      lengths = search rules;
-      has_room = omega (arith, c.requires.has_room, x.invariant.short, g.met.P.Paper.keeps_room _ _ _ x.invariant.stored);
-    }
 
 pub loop-r-preserved : goal.loop-r-preserved
 loop-r-preserved g c =
