@@ -5,7 +5,7 @@ use Rattle.std.proofs.lemmas.List.Edits.{sets}
 use lib.Seq.{length-sets}
 use Rattle.print.specs.Lines.{Stored, StoredAt}
 
--- on a vector
+-- nothing appended leaves a vector as it was
 pub stored_none : (o : List ℕ) → Stored [] o o
 stored_none o = sym (append-nil o)
 
@@ -13,22 +13,22 @@ stored_none o = sym (append-nil o)
 pub stored_then : (a b o : List ℕ) {o' o'' : List ℕ} → Stored a o o' → Stored b o' o'' → Stored (a ++ b) o o''
 stored_then a b o p q = q ∙ ap (λ (l : List ℕ). l ++ b) p ∙ append_assoc o a b
 
--- it is longer by that run
+-- a vector is longer by what was appended
 pub stored_long : (a o : List ℕ) {o' : List ℕ} → Stored a o o' → length o' ≡ length o + length a
 stored_long a o p = ap length p ∙ length-append o a
 
--- one run stored, and the next run after it, is both stored
+-- in a slice the next run, behind the first, is set as one run with it
 sets_append : (o : List ℕ) (at : ℕ) (a b : List ℕ) → sets (sets o at a) (at + length a) b ≡ sets o at (a ++ b)
 sets_append o at [] b = ap (λ (k : ℕ). sets o k b) (add-zero at)
 sets_append o at (x ∷ a) b =
     let e : at + length (x ∷ a) ≡ suc at + length a = omega arith in
     ap (λ (k : ℕ). sets (sets (set o at x) (suc at) a) k b) e ∙ sets_append (set o at x) (suc at) a b
 
--- in a slice
+-- nothing stored leaves a slice as it was
 pub at_none : (o : List ℕ) (at : ℕ) → StoredAt [] at o at o
 at_none o at = record { next = sym (add-zero at); holds = refl }
 
--- and so of what is stored there
+-- one run stored in a slice, and the next run behind it, is both stored
 pub at_then : {a b o o' o'' : List ℕ} {at r s : ℕ} → StoredAt a at o r o' → StoredAt b r o' s o'' → StoredAt (a ++ b) at o s o''
 at_then {a} {b} {o} {at = at} {r = r} p q = record {
   next = omega (arith, p.next, q.next, length-append a b);

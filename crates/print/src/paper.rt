@@ -9,7 +9,7 @@ ghost use Rattle.std.proofs.Common.{refl, ◌∙◌};
 
 use arrayvec::ArrayVec;
 
-// Bytes are stored from the place on, one run after the other, and nothing else changes.
+// Bytes are stored from the place on, one run after the other; `stored` says of each paper what it then holds.
 pub trait Paper {
     // Where the next byte goes.
     ghost place: { Self → ℕ };
@@ -30,10 +30,12 @@ pub trait Paper {
         ensures stored { stored bytes.now self.old self.new }
         ensures len { place self.new ≡ place self.old + length bytes.now };
 
+    // Nothing stored changes nothing, and one run stored and then the next is both stored.
     ghost stores_none: { (o : Self) → stored [] o o };
 
     ghost stores_both: { (a b : List ℕ) (o p q : Self) → stored a o p → stored b p q → stored (a ++ b) o q };
 
+    // The place moves behind the bytes, and the room stays.
     ghost moves_place: { (a : List ℕ) (o p : Self) → stored a o p → place p ≡ place o + length a };
 
     ghost keeps_room: { (a : List ℕ) (o p : Self) → stored a o p → room p ≡ room o };

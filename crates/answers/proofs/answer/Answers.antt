@@ -1,6 +1,6 @@
 use Rattle.std.proofs.Common.{arith}
 use Rattle.sheet.specs.Sheet.{Result}
-use Rattle.answers.proofs.Writing.{answer_sheet, answer_refused}
+use Rattle.answers.proofs.Writing.{answer_refused}
 use Rattle.answers.proofs.Passed.{reading_counted}
 use Rattle.answers.proofs.answer.Goals as goal
 
@@ -9,17 +9,6 @@ sheet_lines-requires g c =
     let read = c.read_sheet in
     let left : Result = record { answer = read.result; sizes = read.new.sizes; costs = read.new.costs; swaps = read.new.swaps; loads = read.new.loads } in
     (reading_counted c.args.text.now left c.in-Ok.counts read.ensures c.in-Ok.is, c.requires)
-
-pub returns-in-Ok : goal.returns-in-Ok
-returns-in-Ok g c =
-    let read = c.read_sheet in
-    let lines = c.sheet_lines.ensures in
-    let p = answer_sheet _ g.P.Paper.stored c.args.text.now read.new.sizes read.new.costs read.new.swaps read.new.loads read.ensures c.in-Ok.is lines.written in
-    record {
-      written = p;
-      upper_bound = lines.upper_bound;
-      in_room = omega (arith, c.requires, lines.upper_bound, g.met.P.Paper.keeps_room _ _ _ lines.written.stored);
-    }
 
 pub returns-in-Err : goal.returns-in-Err
 returns-in-Err g c =
