@@ -1,13 +1,16 @@
 -- Numbers that a row keeps by their codes: held at cap, a cost by its distance above -cap. Assumes nothing.
-use Rattle.std.specs.Prelude.{ℕ, zero, suc, ◌+◌, ◌-◌, min, ◌≤◌, ◌<◌, ◌≡◌, List, [], ◌∷◌, map, Bool, true, false, cond, ◌&&◌, leb, eqb, ℤ, pos, negsuc, length, take, replicate, refl}
+use Rattle.std.specs.Prelude.{ℕ, zero, suc, ◌+◌, ◌-◌, min, ◌≤◌, ◌<◌, ◌≡◌, List, [], ◌∷◌, map, Bool, true, false, cond, ◌&&◌, leb, eqb, ℤ, pos, negsuc, length, take, replicate, Some, None, Ok, Err, refl}
+use Rattle.std.specs.Prelude as std
 use Rattle.std.proofs.Common.{ap, sym, ◌∙◌, arith, leb-true, leb-false, le-leb, eqb-true, ne_eqb, length-take-le}
 use Rattle.std.proofs.Math.Option.{Option, none, some}
 use Rattle.std.proofs.Math.Option as option
 use Rattle.laws.specs.Signed as signed
 use Rattle.terms.specs.declared.Refusal.{Refusal}
+use Rattle.terms.specs.declared.Refusal.TheVariants.{BadLine}
+use Rattle.terms.specs.declared.Refused.{Refused}
 use Rattle.texts.specs.Number.{number_of, digits, cap}
 use Rattle.shapes.specs.Split.{Got, fine, wrong, split, first, rest, joined, numbers, shaped, lined, read_line, less, more, cost_of}
-use Rattle.shapes.specs.Rows.{less_code, more_code, code_of}
+use Rattle.shapes.specs.Rows.{less_code, more_code, code_of, step_got}
 use Rattle.records.specs.Lines.{Pieces, after, ask, all, within, cost_fine}
 use Rattle.records.specs.Steps.{Stored, Coded, cost_from}
 
@@ -43,6 +46,14 @@ module _ {A B : Type 0} (f : A → B) where
     map_line : (at w k : ℕ) (ps : Pieces) → read_line at (shaped w kept k) ps ≡ map_g f (read_line at (shaped w num k) ps)
     map_line at w k ps =
         rw (map_numbers k (rest (split 9 (first ps))), map_pick) (map_lined at (shaped w num k (first ps)) (rest ps))
+
+  -- a line that is not read is misshapen
+  pub shut : (at : ℕ) (o : Option (List A)) (ps : Pieces) (r : std.Result (std.Option ℕ) Refused) (row : List B) (s : List ℕ) → map_g f (lined at o ps) ≡ step_got at r row s → ((next : ℕ) → r ≡ Ok (Some next) → ⊥) → lined at o ps ≡ wrong BadLine at
+  shut at o [] r row s e h = refl
+  shut at none (p ∷ ps) r row s e h = refl
+  shut at (some v) (p ∷ ps) (Ok (Some next)) row s e h = absurd (h next refl)
+  shut at (some v) (p ∷ ps) (Ok None) row s e h = cc
+  shut at (some v) (p ∷ ps) (Err refused) row s e h = cc
 
 -- ## A line of coded numbers
 
@@ -145,6 +156,10 @@ plain_code (b ∷ p) = go (eqb b 45) refl
     go true e = less_plain (number_of p) ∙ sym (ap (option.map (min cap)) (ap (λ (x : ℕ). number_of (x ∷ p)) (eqb-true b 45 e) ∙ no_digits p))
     go false e = more_plain (number_of (b ∷ p))
 
+-- the row that is kept of a line without a minus
+pub plain_line : (at w k : ℕ) (ps : Pieces) → read_line at (shaped w (code_of false) k) ps ≡ map_g (min cap) (read_line at (shaped w number_of k) ps)
+plain_line = map_line (min cap) number_of (code_of false) plain_code
+
 pub leb_same : (a b c d : ℕ) → (a ≤ b → c ≤ d) → (c ≤ d → a ≤ b) → leb a b ≡ leb c d
 leb_same a b c d f g = go (leb a b) refl (leb c d) refl
   where
@@ -169,7 +184,7 @@ plain least most l m =
 
 -- ## Costs
 
-abbrev code : ℤ → ℕ
+abbrev pub code : ℤ → ℕ
 code (pos v) = cap + min cap v
 code (negsuc v) = cap - min cap (suc v)
 
@@ -189,6 +204,10 @@ cost_code (b ∷ p) = go (eqb b 45)
     go : (t : Bool) → cond t (less_code true (number_of p)) (more_code true (number_of (b ∷ p))) ≡ option.map code (cond t (less (number_of p)) (more (number_of (b ∷ p))))
     go true = less_cost (number_of p)
     go false = more_cost (number_of (b ∷ p))
+
+-- the row that is kept of a line of costs
+pub cost_codes : (at w k : ℕ) (ps : Pieces) → read_line at (shaped w (code_of true) k) ps ≡ map_g code (read_line at (shaped w cost_of k) ps)
+cost_codes = map_line code cost_of (code_of true) cost_code
 
 and_true : (t : Bool) → (t && true) ≡ t
 and_true true = refl

@@ -176,6 +176,14 @@ module _ (at : ℕ) (sg : Bool) (s : List ℕ) (place : ℕ) where
   pub stop : (k : ℕ) → amount_of sg (field_at s place) ≡ None → row_got at sg (suc k) (drop place s) ≡ wrong BadLine at
   stop k f = stop_at k (drop place s) f
 
+-- whether a field is the line feed
+abbrev pub is_feed : std.Option Field → Bool
+is_feed None = false
+is_feed (Some (Word w next)) = false
+is_feed (Some (Number v next)) = false
+is_feed (Some (Minus v next)) = false
+is_feed (Some (Feed next)) = true
+
 -- the place after a field, if it is the line feed
 abbrev pub feed_then : std.Option Field → std.Option ℕ
 feed_then None = None
@@ -235,6 +243,24 @@ module _ (at : ℕ) (sg : Bool) (s : List ℕ) (place : ℕ) where
       go true u n m f = ap (λ (x : ℕ). row_got at sg 0 (x ∷ l)) (eqb-true b 9 n) ∙ tab_end at sg l
       go false true n m f = absurd (let z : ◌≡◌ {A = ℕ} 0 1 = cc in omega arith)
       go false false n m f = other_row at sg 0 b l n m
+
+-- ## What the last arm of a match knows
+
+-- a field that is no number, with a minus or without, has no number
+pub other_amount : (sg : Bool) (f : std.Option Field) → ((v next : ℕ) → f ≡ Some (Number v next) → ⊥) → ((v next : ℕ) → f ≡ Some (Minus v next) → ⊥) → None ≡ amount_of sg f
+other_amount sg None n m = refl
+other_amount sg (Some (Word w next)) n m = refl
+other_amount sg (Some (Number v next)) n m = absurd (n v next refl)
+other_amount sg (Some (Minus v next)) n m = absurd (m v next refl)
+other_amount sg (Some (Feed next)) n m = refl
+
+-- a field of another kind is no line feed
+pub other_feed : (f : std.Option Field) → ((next : ℕ) → f ≡ Some (Feed next) → ⊥) → is_feed f ≡ false
+other_feed None n = refl
+other_feed (Some (Word w next)) n = refl
+other_feed (Some (Number v next)) n = refl
+other_feed (Some (Minus v next)) n = refl
+other_feed (Some (Feed next)) n = absurd (n next refl)
 
 -- ## The loop: i of K numbers stand in the row, and the text at the place says the others
 

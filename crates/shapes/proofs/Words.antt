@@ -12,7 +12,7 @@ use Rattle.lines.specs.declared.Word as words
 use Rattle.lines.specs.declared.Word.TheVariants.{Kit, Size, Cost, Swap, Load}
 use Rattle.lines.specs.declared.Field.{Field}
 use Rattle.lines.specs.declared.Field.TheVariants.{Word, Number, Minus, Feed}
-use Rattle.lines.specs.Fields.{number_of_word, number_of_which, which_word, word_of, worded, numbered, lessened, signed, word_in, number_in, field_in, same}
+use Rattle.lines.specs.Fields.{number_of_word, number_of_which, which_word, word_of, worded, numbered, lessened, signed, word_in, number_in, field_in, field_at, same}
 use Rattle.shapes.specs.Split.{wrong, split, rest, is_word, shaped, read_line}
 use Rattle.shapes.specs.Rows.{code_of, row_got, begun_in, after_word}
 use Rattle.shapes.proofs.Parted.{later, begins, no_line}
@@ -142,3 +142,15 @@ module _ (line : ℕ) (sg : Bool) (w k : ℕ) (s : List ℕ) (at : ℕ) where
           → (true ≡ not (begun_in w (drop at s))) × (read_line line (shaped w (code_of sg) k) (split 10 (drop at s)) ≡ wrong BadLine line)
       go true b e = absurd (let z : ◌≡◌ {A = ℕ} 0 1 = cc in omega arith)
       go false b e = (rw b, other_row line sg w k (drop at s) b)
+
+  -- a field that is no word begins no line of the word
+  pub word_none : (f : std.Option Field) → f ≡ field_at s at → ((v : words.Word) (place : ℕ) → f ≡ Some (Word v place) → ⊥)
+      → (true ≡ not (begun_in w (drop at s))) × (read_line line (shaped w (code_of sg) k) (split 10 (drop at s)) ≡ wrong BadLine line)
+  word_none f e n = word_miss (sym (go f n) ∙ (ap (word_then w) e ∙ is_begun w at (drop at s)))
+    where
+      go : (f : std.Option Field) → ((v : words.Word) (place : ℕ) → f ≡ Some (Word v place) → ⊥) → word_then w f ≡ None
+      go None n = refl
+      go (Some (Word v place)) n = absurd (n v place refl)
+      go (Some (Number v place)) n = refl
+      go (Some (Minus v place)) n = refl
+      go (Some (Feed place)) n = refl
