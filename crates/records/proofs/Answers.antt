@@ -1,13 +1,13 @@
 -- What the functions over one line answer, from the row that was read. Assumes nothing.
-use Rattle.std.specs.Prelude.{ℕ, zero, suc, ◌+◌, ◌-◌, ◌*◌, min, ◌≤◌, ◌<◌, ◌≡◌, List, [], ◌∷◌, ◌++◌, Bool, true, false, cond, not, ◌&&◌, leb, ltb, eqb, length, get_or, take, drop, Result, Ok, Err, ⊤, refl}
-use Rattle.std.proofs.Common.{ap, sym, ◌∙◌, inl, inr, arith, le-leb, leb-true, lt-ltb, le-ltb, ltb-true, eq-eqb, eqb-true, take_at, drop_at, drop_of_length-le, length-drop, length-take-le, append-nil, take-take, drop-drop, mul-le-mul_right, add-mul, one-mul, zero-add, suc-add}
+use Rattle.std.specs.Prelude.{ℕ, zero, suc, ◌+◌, ◌-◌, ◌*◌, min, ◌≤◌, ◌<◌, ◌≡◌, List, [], ◌∷◌, ◌++◌, Bool, true, false, cond, not, ◌&&◌, leb, ltb, eqb, ℤ, length, get_or, take, drop, Option, Some, None, Result, Ok, Err, ⊤, refl}
+use Rattle.std.proofs.Common.{ap, sym, ◌∙◌, inl, inr, arith, le-leb, leb-true, lt-ltb, le-ltb, ltb-true, eq-eqb, ne_eqb, eqb-true, take_at, drop_at, drop_of_length-le, length-drop, length-take-le, append-nil, take-take, drop-drop, mul-le-mul_right, add-mul, one-mul, zero-add, suc-add}
 use Rattle.std.proofs.Math.ListN.{get_or-map}
 use Rattle.std.proofs.Math.Seq.{take-nil}
 use Rattle.std.proofs.lemmas.Slice.{take-put_mid_below}
 use borrow.Rule.Slice.PartMut.{put_mid}
 use Rattle.terms.specs.declared.Kit.{Kit}
 use Rattle.terms.specs.declared.Refusal.{Refusal}
-use Rattle.terms.specs.declared.Refusal.TheVariants.{Kinds, Bound, Length, SameSides, UnequalGrades, BigCount}
+use Rattle.terms.specs.declared.Refusal.TheVariants.{Kinds, Bound, Length, Cost, SameSides, UnequalGrades, BadLine, BigCount}
 use Rattle.terms.specs.declared.Refused.{Refused}
 use Rattle.terms.specs.Answers.{refuse}
 use Rattle.terms.specs.Outcome.{Outcome}
@@ -15,13 +15,34 @@ use Rattle.loads.specs.KitTests.{kit_tests}
 use Rattle.sides.specs.Fine.{side_tests}
 use Rattle.terms.specs.Load.{grade}
 use Rattle.terms.specs.Flat.{left_at, right_at}
-use Rattle.texts.specs.Number.{number_of, cap}
-use Rattle.lines.specs.Fields.{same}
-use Rattle.shapes.specs.Split.{Got, fine, wrong, shaped, read_line}
-use Rattle.shapes.specs.Rows.{code_of, numbers_got}
-use Rattle.records.specs.Lines.{Pieces, after, ask, all, within, kit_of, kit_line, counts_line, sides_of}
-use Rattle.records.specs.Steps.{Stored, Coded, sides_step}
-use Rattle.records.proofs.Codes.{kept, not_read, out_of_range, in_range, plain}
+use Rattle.texts.specs.Number.{number_of, piece, closed, cap}
+use Rattle.lines.specs.declared.Word.{Word}
+use Rattle.lines.specs.declared.Word.TheVariants as words
+use Rattle.lines.specs.Fields.{same, number_of_word, number_of_which, which_word, word_of}
+use Rattle.shapes.specs.Split.{Got, fine, wrong, split, first, rest, is_word, shaped, read_line, cost_of}
+use Rattle.shapes.specs.Rows.{code_of, numbers_got, step_got}
+use Rattle.shapes.proofs.Turns.{lined_none}
+use Rattle.records.specs.Lines.{Pieces, after, ask, all, within, kit_of, kit_line, cost_fine, cost_line, counts_line, sides_of}
+use Rattle.records.specs.Steps.{Stored, Coded, Recorded, sides_step}
+use Rattle.records.proofs.Codes.{shut, plain_line, code, cost_codes, kept, not_read, out_of_range, in_range, plain}
+
+-- ## A line that is not read
+
+-- a line without a minus
+module _ (line w k n : ℕ) (ps : Pieces) (r : Result (Option ℕ) Refused) (out s : List ℕ) (long : k ≡ n) (said : read_line line (shaped w (code_of false) k) ps ≡ step_got line r out s) where
+  plain_said : read_line line (shaped w (code_of false) n) ps ≡ step_got line r out s
+  plain_said = ap (λ (m : ℕ). read_line line (shaped w (code_of false) m) ps) (sym long) ∙ said
+
+  pub plain_shut : ((next : ℕ) → r ≡ Ok (Some next) → ⊥) → read_line line (shaped w number_of n) ps ≡ wrong BadLine line
+  plain_shut h = shut (min cap) line (shaped w number_of n (first ps)) (rest ps) r out s (sym (plain_line line w n ps) ∙ plain_said) h
+
+-- the cost line
+module _ (k n : ℕ) (ps : Pieces) (r : Result (Option ℕ) Refused) (out s : List ℕ) (long : k ≡ n) (said : read_line 3 (shaped 2 (code_of true) k) ps ≡ step_got 3 r out s) where
+  costs_said : read_line 3 (shaped 2 (code_of true) n) ps ≡ step_got 3 r out s
+  costs_said = ap (λ (m : ℕ). read_line 3 (shaped 2 (code_of true) m) ps) (sym long) ∙ said
+
+  pub costs_shut : ((next : ℕ) → r ≡ Ok (Some next) → ⊥) → cost_line n ps ≡ wrong BadLine 3
+  costs_shut h = ap (λ (g : Got (List ℤ × Pieces)). after g (λ r. ask (all cost_fine r.0) Cost 3 (fine r))) (shut code 3 (shaped 2 cost_of n (first ps)) (rest ps) r out s (sym (cost_codes 3 2 n ps) ∙ costs_said) h)
 
 -- ## The kit line
 
@@ -127,6 +148,37 @@ had_room line w width used room ps r e = go (read_line line (shaped w number_of 
     go (fine x) true h e = ltb-true used room h
     go (fine x) false h e = cc
     go (wrong reason at) t h e = cc
+
+-- which number is no word's, by those that are
+pub no_word : (number : ℕ) → (number ≡ 0 → ⊥) → (number ≡ 1 → ⊥) → (number ≡ 2 → ⊥) → (number ≡ 3 → ⊥) → (number ≡ 4 → ⊥) → (word : Word) → number_of_word word ≡ number → ⊥
+no_word number a b c d e words.Kit h = a (sym h)
+no_word number a b c d e words.Size h = b (sym h)
+no_word number a b c d e words.Cost h = c (sym h)
+no_word number a b c d e words.Swap h = d (sym h)
+no_word number a b c d e words.Load h = e (sym h)
+
+-- a line of counts whose word is none
+module _ (line w width used room at : ℕ) (text : List ℕ) (unnamed : (word : Word) → number_of_word word ≡ w → ⊥) where
+  not_word : (o : Option Word) → is_word w (number_of_which o) ≡ false
+  not_word None = refl
+  not_word (Some word) = ne_eqb (number_of_word word) w (unnamed word)
+
+  not_begun : (closed : Bool) (o : Option Word) → true ≡ not (closed && is_word w (number_of_which o))
+  not_begun true o = rw (not_word o)
+  not_begun false o = refl
+
+  not_read_of : (ps : Pieces) → read_line line (shaped w number_of width) ps ≡ wrong BadLine line
+  unfolding word_of
+  not_read_of ps = rw (not_word (which_word (first (split 9 (first ps))))) (lined_none line (rest ps))
+
+  pub no_line_of : (table : List ℕ) → Recorded line w width used at text table (counts_line line w width used room (split 10 (drop at text))) (Ok None) table
+  unfolding word_of
+  no_line_of table =
+      record {
+        other = not_begun (closed (drop at text)) (which_word (piece (drop at text)));
+        is = ap (λ (g : Got (List ℕ × Pieces)). after g (λ r. ask (ltb used room) Length line (ask (all (within 0 65535) r.0) BigCount line (fine r)))) (not_read_of (split 10 (drop at text)));
+        kept = refl;
+      }
 
 -- a part of a table from a place on, written anew
 module _ (at : ℕ) (table part : List ℕ) (h : at ≤ length table) where

@@ -2,7 +2,7 @@
 // Each function takes a place of the text and hands the next one back, as the definitions go: `split 10 (drop at text)`.
 #![tactic(auto)]
 
-ghost use Rattle.std.specs.Prelude.{ℕ, List, Bool, ◌≡◌, ◌+◌, ◌-◌, ◌*◌, ◌^◌, ◌≤◌, ◌<◌, length, take, drop};
+ghost use Rattle.std.specs.Prelude.{ℕ, List, Bool, MatchOption, ◌≡◌, ◌+◌, ◌-◌, ◌*◌, ◌^◌, ◌≤◌, ◌<◌, length, take, drop};
 ghost use Rattle.terms.specs.Limits.{KindsFine, most_kinds, most_size, most_cost, most_swaps, most_count};
 ghost use Rattle.texts.specs.Number.{cap};
 ghost use Rattle.lines.specs.Fields.{number_of_word};
@@ -142,16 +142,16 @@ pub fn cost_line(text: &[u8], at: usize, n: usize, costs: &mut [i32]) -> Result<
     )
 }
 
-// The count that a number of a row stands for, if it is in range.
+// The count that a number of a row stands for, if it is in range; then the cast loses nothing.
 fn count_from(number: u32) -> Option<u16>
     ensures { result ≡ ranged (λ v. v) 0 most_count number }
 {
-    u16::try_from(number).ok()
+    (number <= Kit::COUNT).then(|| number as u16)
 }
 
 // The counts of a swap or of a load, where `used` of `room` records of `width` counts stand already: a lent buffer does not know how much
 // of it is in use.
-pub fn counts_line(
+pub fn word_line(
     text: &[u8],
     at: usize,
     line: usize,
@@ -178,6 +178,41 @@ pub fn counts_line(
     Ok(Some(next))
 }
 
+// The word of a number.
+#[tactic(auto, using(crate::proofs::Answers::no_word))]
+fn word_of(number: u8) -> Option<Word>
+    ensures { MatchOption result ((word : _) → number_of_word word ≡ number → ⊥) (λ word. number_of_word word ≡ number) }
+{
+    match number {
+        0 => Some(Word::Kit),
+        1 => Some(Word::Size),
+        2 => Some(Word::Cost),
+        3 => Some(Word::Swap),
+        4 => Some(Word::Load),
+        _ => None,
+    }
+}
+
+// The same by the number of a word: where it is no word's, each line has another word.
+pub fn counts_line(
+    text: &[u8],
+    at: usize,
+    line: usize,
+    word: u8,
+    width: usize,
+    used: usize,
+    room: usize,
+    table: &mut [u16],
+) -> Result<Option<usize>, Refused>
+    requires { (width ≤ 24) × (used ≤ room) × (room * width ≤ length table.old) }
+    ensures { Recorded line word width used at text.now table.old (counts_line line word width used room (split 10 (drop at text.now))) result table.new }
+{
+    match word_of(word) {
+        Some(word) => word_line(text, at, line, word, width, used, room, table),
+        None => Ok(None),
+    }
+}
+
 // The line of a swap: its sides differ, and have one grade.
 pub fn swap_line(
     text: &[u8],
@@ -191,7 +226,7 @@ pub fn swap_line(
     ensures { Recorded line 3 (2 * length sizes.now) used at text.now swaps.old (swap_line line (length sizes.now) sizes.now used (split 10 (drop at text.now))) result swaps.new }
 {
     let width = 2 * sizes.len();
-    let Some(next) = counts_line(text, at, line, Word::Swap, width, used, Kit::SWAPS, swaps)? else {
+    let Some(next) = word_line(text, at, line, Word::Swap, width, used, Kit::SWAPS, swaps)? else {
         return Ok(None);
     };
     sides::tested(sizes, swaps, used, line)?;

@@ -21,16 +21,16 @@ pub struct Counts {
 
 // Lines of one word: how many there are, and the place of the line after them.
 #[derive(Clone, Copy)]
-struct Block {
-    count: usize,
-    next: usize,
+pub struct Block {
+    pub count: usize,
+    pub next: usize,
 }
 
 // How many swaps and loads the lines from the fourth on have.
 #[derive(Clone, Copy)]
-struct Rest {
-    swaps: usize,
-    loads: usize,
+pub struct Rest {
+    pub swaps: usize,
+    pub loads: usize,
 }
 
 // The swap lines, up to the first line of another word. The walk goes by the places that the lines hand back; the count is the answer.
@@ -69,7 +69,7 @@ fn read_loads(
     let mut used = 0;
     while at < text.len() {
         let line = first + used;
-        let next = records::counts_line(text, at, line, Word::Load, n, used, Kit::LOADS, loads)?;
+        let next = records::word_line(text, at, line, Word::Load, n, used, Kit::LOADS, loads)?;
         at = next.ok_or(Refusal::BadLine.at(line))?;
         used += 1;
     }

@@ -13,14 +13,14 @@ tested-requires c =
     let e = rw c.in-Some.is at c.in_ok-next.ensures in
     let h = answers.had_room a.line 3 (2 * n) a.used 64 (split 10 (drop a.at a.text.now)) _ e.is in
     let k = answers.record_in a.used 64 (2 * n) (length a.swaps.now) h c.requires.2 in
-    let z = c.counts_line.auto.table in
+    let z = c.word_line.auto.table in
     (c.requires.0, omega arith)
 
 pub returns-in_err-tested : goal.returns-in_err-tested
 returns-in_err-tested c =
     let a = c.args in
     let n = length a.sizes.now in
-    let x = c.counts_line in
+    let x = c.word_line in
     let e = rw c.in-Some.is at c.in_ok-next.ensures in
     let r : c.from_residual-in_err-tested.result ≡ Err c.in_err-tested.field-0.0 = search rules in
     let row = take (2 * n) (drop (a.used * (2 * n)) x.new.table) in
@@ -34,7 +34,7 @@ pub returns : goal.returns
 returns c =
     let a = c.args in
     let n = length a.sizes.now in
-    let x = c.counts_line in
+    let x = c.word_line in
     let e = rw c.in-Some.is at c.in_ok-next.ensures in
     let row = take (2 * n) (drop (a.used * (2 * n)) x.new.table) in
     record {

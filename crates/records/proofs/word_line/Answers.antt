@@ -5,7 +5,7 @@ use Rattle.lines.specs.Fields.{number_of_word}
 use Rattle.shapes.specs.Split.{split, wrong}
 use Rattle.records.proofs.Codes as codes
 use Rattle.records.proofs.Answers as answers
-use Rattle.records.proofs.counts_line.Goals as goal
+use Rattle.records.proofs.word_line.Goals as goal
 
 pub returns-in_err-next : goal.returns-in_err-next
 returns-in_err-next c =

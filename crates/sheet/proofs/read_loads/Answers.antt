@@ -9,7 +9,7 @@ pub returns-in_err-next : goal.returns-in_err-next
 returns-in_err-next c =
     let a = c.args in
     let l = c.loop-at in
-    let x = c.counts_line in
+    let x = c.word_line in
     let r : c.from_residual.result ≡ Err c.in_err-next.field-0.0 = search rules in
     rw r (tt, sym l.invariant.2 ∙ blocks.load_refused a.n a.first l.used l.at a.text.now l.loads x.new.table x.result c.loop-at-test.true x.ensures _ c.in_err-next.was)
 
@@ -17,7 +17,7 @@ pub returns-in_err-at : goal.returns-in_err-at
 returns-in_err-at c =
     let a = c.args in
     let l = c.loop-at in
-    let x = c.counts_line in
+    let x = c.word_line in
     let r : c.from_residual-in_err-at.result ≡ Err c.in_err-at.field-0.0 = search rules in
     let v = c.in_err-at.ensures in
     let o : c.in_ok-next.next ≡ None = search rules in
@@ -28,7 +28,7 @@ pub loop-at-preserved : goal.loop-at-preserved
 loop-at-preserved c =
     let a = c.args in
     let l = c.loop-at in
-    let x = c.counts_line in
+    let x = c.word_line in
     let o : c.in_ok-next.next ≡ Some c.in_ok-at.at = search rules in
     let h = blocks.load_on a.n a.first l.used l.at a.text.now l.loads x.new.table x.result c.loop-at-test.true x.ensures _ (c.in_ok-next.was ∙ ap (λ (o : Option ℕ). Ok o) o) in
     (omega (arith, h.0), x.auto.table ∙ l.invariant.1, h.1 ∙ l.invariant.2)
