@@ -13,6 +13,11 @@ use Rattle.shapes.specs.Rows.{code_of, step_got, is_other, begun_in}
 use Rattle.records.specs.declared.KitLine.{KitLine}
 use Rattle.records.specs.Lines.{Pieces, all, within}
 
+-- what the numbers of the kit line say, with the pieces after it
+abbrev pub kit_said : Result Kit Refused → Pieces → Got (Kit × Pieces)
+kit_said (Ok kit) rest = fine (kit, rest)
+kit_said (Err refused) rest = wrong refused.why refused.place
+
 -- the kit line's answer
 abbrev pub kit_got : Result KitLine Refused → List ℕ → Got (Kit × Pieces)
 kit_got (Ok line) s = fine (line.kit, split 10 (drop line.next s))

@@ -8,8 +8,8 @@ ghost use Rattle.texts.specs.Number.{cap};
 ghost use Rattle.lines.specs.Fields.{number_of_word};
 ghost use Rattle.shapes.specs.Split.{fine, split, shaped, read_line};
 ghost use Rattle.shapes.specs.Rows.{code_of, numbers_got};
-ghost use Rattle.records.specs.Lines.{after, ask, all, kit_line, size_line, cost_line, counts_line, swap_line};
-ghost use Rattle.records.specs.Steps.{kit_got, ranged, Stored, Coded, cost_from, Recorded};
+ghost use Rattle.records.specs.Lines.{Pieces, after, ask, all, kit_of, kit_line, size_line, cost_line, counts_line, swap_line};
+ghost use Rattle.records.specs.Steps.{kit_said, kit_got, ranged, Stored, Coded, cost_from, Recorded};
 
 use lines::Word;
 use terms::{Kit, Refusal, Refused};
@@ -35,14 +35,22 @@ fn due_line(
     shapes::line_at(text, at, line, word, signed, row)?.ok_or(Refusal::BadLine.at(line))
 }
 
+// The kit that the numbers of line 1 stand for, if both are within their limits.
+fn kit_from(kinds: usize, bound: usize) -> Result<Kit, Refused>
+    ensures { (rest : Pieces) → kit_of kinds bound rest ≡ kit_said result rest }
+{
+    let kit = Kit::of(kinds, bound);
+    loads::kit_tested(kit, 1)?;
+    Ok(kit)
+}
+
 // Line 1: the kit, its n and its B within their limits. From u32 to usize there is no `From`; the casts lose nothing.
 pub fn kit_line(text: &[u8]) -> Result<KitLine, Refused>
     ensures { kit_line (split 10 text.now) ≡ kit_got result text.now }
 {
     let mut row = [0; 2];
     let next = due_line(text, 0, 1, Word::Kit, false, &mut row)?;
-    let kit = Kit::of(row[0] as usize, row[1] as usize);
-    loads::kit_tested(kit, 1)?;
+    let kit = kit_from(row[0] as usize, row[1] as usize)?;
     Ok(KitLine { kit, next })
 }
 
