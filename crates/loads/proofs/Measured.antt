@@ -51,8 +51,10 @@ module _ (n m v : ℤ) (x : ℕ) (n_is : n ≡ pos x) (m_is : m ≡ v) (count_sm
     pub sum_fits : SFits w64 total
     sum_fits = subst (SFits w64) (sym total_is) (small (s +ℤ (pos x *ℤ v)) (omega (arith, within)))
 
-    pub sum_left : (ms : List ℤ) (xs : List ℕ) (whole : ℤ) → s +ℤ cost (v ∷ ms) (x ∷ xs) ≡ whole → to_z w64 (of_z w64 total) +ℤ cost ms xs ≡ whole
-    sum_left ms xs whole e = ap (λ (z : ℤ). z +ℤ cost ms xs) sum_is ∙ +ℤ_assoc s _ _ ∙ e
+    -- of the count y that comes next
+    pub sum_left : (ms : List ℤ) (y : ℕ) (xs : List ℕ) (whole : ℤ) → x ≡ y → s +ℤ cost (v ∷ ms) (y ∷ xs) ≡ whole → to_z w64 (of_z w64 total) +ℤ cost ms xs ≡ whole
+    sum_left ms y xs whole is e =
+        ap (λ (z : ℤ). z +ℤ cost ms xs) sum_is ∙ +ℤ_assoc s _ _ ∙ ap (λ (n : ℕ). s +ℤ cost (v ∷ ms) (n ∷ xs)) is ∙ e
 
     pub sum_within : Within (to_z w64 (of_z w64 total)) left most
     sum_within = subst (λ (z : ℤ). Within z left most) (sym sum_is) within

@@ -1,17 +1,19 @@
 -- What the tests of settle show where all are passed.
 -- Assumes nothing.
-use Rattle.std.specs.Prelude.{ℕ, ◌≤◌, ◌≡◌, List, [], ◌∷◌, length, ℤ, Result, Ok}
-use Rattle.std.proofs.Common.{ap, arith}
+use Rattle.std.specs.Prelude.{ℕ, ◌≤◌, ◌≡◌, List, [], ◌∷◌, length, ℤ, Result, Ok, Err}
+use Rattle.std.proofs.Common.{ap, sym, subst, refl, arith}
 use Rattle.terms.specs.declared.Refused.{Refused}
 use Rattle.terms.specs.declared.Refusal.{Refusal}
 use Rattle.terms.specs.declared.Refusal.TheVariants.{OverBound}
 use Rattle.terms.specs.Load.{grade}
+use Rattle.terms.specs.Flat.{table_of}
+use Rattle.terms.specs.Settling.{Settles}
 use Rattle.terms.specs.Outcome.{must, in_turn, Outcome}
 use Rattle.terms.specs.Answers.{refuse}
-use Rattle.laws.specs.Outcome.{AllHold, Never, passed, never_append, never_turns, append_hold, turns_hold}
+use Rattle.laws.specs.Outcome.{AllHold, Never, passed, never_append, never_turns, append_hold, turns_hold, outcome_map, ends}
 use Rattle.laws.specs.Flat.{rows_in}
 use Rattle.settle.specs.Ready.{Ready}
-use Rattle.settle.specs.Call.{row_test, tests}
+use Rattle.settle.specs.Call.{row_test, tests, Accepted, Settling}
 
 pub refused_not_done : (why : Refusal) (place : ℕ) → ◌≡◌ {A = Result (Unit {0}) Refused} (Ok tt) (refuse why place) → ⊥
 refused_not_done why place e = let z : ◌≡◌ {A = ℕ} 0 1 = cc in omega arith
@@ -33,6 +35,11 @@ module _ (n bound : ℕ) (sizes : List ℕ) (costs : List ℤ) (rules : List ℕ
   pub all_passed : Outcome (λ o. o.0 ≡ Ok tt) (tests n bound sizes costs rules rows load) (Ok tt, load) → AllHold (tests n bound sizes costs rules rows load)
   all_passed = passed (λ o. o.0 ≡ Ok tt) (tests n bound sizes costs rules rows load) (Ok tt, load) never_done
 
+  -- a refusal of the tests is the call's
+  pub settle_stops : (why : Refused) → Outcome (λ o. o.0 ≡ Ok tt) (tests n bound sizes costs rules rows load) (Err why, load) → Settling n bound sizes costs rules rows load (Err why, load)
+  settle_stops why o =
+      outcome_map (λ o. o.0 ≡ Ok tt) (Accepted n rules rows load) (tests n bound sizes costs rules rows load) (Err why, load) (λ d. absurd (refused_not_done _ _ (sym d))) o
+
   pub fit_of : AllHold (tests n bound sizes costs rules rows load) → Fit n bound sizes costs rules rows load
   fit_of h =
       let lengths = h.1.1.0 in
@@ -49,3 +56,15 @@ module _ (n bound : ℕ) (sizes : List ℕ) (costs : List ℤ) (rules : List ℕ
         long = lengths.load_long;
         small = rest.1.0;
       }
+
+  -- where the tests answer done: what `settle_proper` asks, and what it gives as the call's outcome
+  module _ (r : Result (Unit {0}) Refused) (done : r ≡ Ok tt) (said : Outcome (λ o. o.0 ≡ Ok tt) (tests n bound sizes costs rules rows load) (r, load)) where
+    held : AllHold (tests n bound sizes costs rules rows load)
+    held =
+        all_passed (subst (λ (w : Result (Unit {0}) Refused). Outcome (λ o. o.0 ≡ Ok tt) (tests n bound sizes costs rules rows load) (w, load)) done said)
+
+    pub settle_passed : Ready n bound sizes costs rules rows × (length load ≡ n) × (grade sizes load ≤ bound)
+    settle_passed = let f = fit_of held in (f.ready, f.long, f.small)
+
+    pub settle_ends : (after : List ℕ) → Settles (table_of n rules rows) load after → Settling n bound sizes costs rules rows load (Ok tt, after)
+    settle_ends after s = ends (Accepted n rules rows load) (tests n bound sizes costs rules rows load) _ held (refl, s)

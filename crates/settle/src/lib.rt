@@ -99,6 +99,7 @@ impl Table<'_> {
 }
 
 // Settle: the load at exit is the end of settling; refused, it is as it was lent.
+#[tactic(auto, using(crate::specs::Passed::settle_stops, crate::specs::Passed::settle_passed, crate::specs::Passed::settle_ends))]
 pub fn settle(
     kit: Kit,
     sizes: &[u16],

@@ -15,7 +15,7 @@ overflow_add-sum g c =
     let x = c.args.x.now in
     let e : length x - k ≡ suc (length x - (k + 1)) = omega arith in
     let s = to_z w64 c.loop-k.sum-bits in
-    sum_fits _ _ _ (get_or x k 0) c.from.ensures c.wide.ensures.exact (omega arith) c.wide.ensures.small s (length x - (k + 1)) (length x) (subst (λ (n : ℕ). Within s n (length x)) e c.loop-k.invariant.within) (omega arith)
+    sum_fits _ _ _ _ c.from.ensures c.wide.ensures.exact (omega arith) c.wide.ensures.small s (length x - (k + 1)) (length x) (subst (λ (n : ℕ). Within s n (length x)) e c.loop-k.invariant.within) (omega arith)
 
 pub loop-k-preserved : goal.loop-k-preserved
 loop-k-preserved g c =
@@ -28,6 +28,6 @@ loop-k-preserved g c =
     let room = subst (λ (n : ℕ). Within s n (length x)) e c.loop-k.invariant.within in
     let before = ap₂ (λ (a : List _) (b : List ℕ). s +ℤ cost (map value a) b) (sym (here ms k c.index-measures-k.result c.index-measures-k.result (omega arith) c.index-measures-k.is)) (sym (here x k 0 (get_or x k 0) (omega arith) refl)) ∙ c.loop-k.invariant.left in
     record {
-      left = sum_left _ _ _ (get_or x k 0) c.from.ensures c.wide.ensures.exact (omega arith) c.wide.ensures.small s (length x - (k + 1)) (length x) room (omega arith) (map value (drop (k + 1) ms)) (drop (k + 1) x) (cost (map value ms) x) before;
-      within = sum_within _ _ _ (get_or x k 0) c.from.ensures c.wide.ensures.exact (omega arith) c.wide.ensures.small s (length x - (k + 1)) (length x) room (omega arith);
+      left = sum_left _ _ _ _ c.from.ensures c.wide.ensures.exact (omega arith) c.wide.ensures.small s (length x - (k + 1)) (length x) room (omega arith) (map value (drop (k + 1) ms)) (get_or x k 0) (drop (k + 1) x) (cost (map value ms) x) (omega arith) before;
+      within = sum_within _ _ _ _ c.from.ensures c.wide.ensures.exact (omega arith) c.wide.ensures.small s (length x - (k + 1)) (length x) room (omega arith);
     }

@@ -1,4 +1,4 @@
-use Rattle.std.proofs.Common.{ℕ, ℤ, List, length, ◌≡◌, ◌<◌, refl, ap, subst, inl, inr, rules}
+use Rattle.std.proofs.Common.{ℕ, ℤ, List, length, ◌≡◌, ◌<◌, refl, ap, subst, inl, inr, arith, rules}
 use Rattle.std.specs.Prelude.{Result, Ok}
 use Rattle.terms.specs.declared.Refused.{Refused}
 use Rattle.terms.specs.Limits.{All, KindsFine, BoundFine, SizeFine, CostFine}
@@ -35,6 +35,11 @@ module _ (n bound : ℕ) (sizes : List ℕ) (costs : List ℤ) (swaps rules : Li
       let count = rows_lent n swaps in
       from_swaps e o (outcome_map (λ p. ⊥) IsDone (in_turn count tests) o (λ x. absurd x) (turns_stop count tests bad o l (λ i m. ((low.fine i m).0, ((low.fine i m).1, tt))) s))
 
+  -- its tests, by as many kinds as there are sizes and at a place that is its number
+  named : (m bad place : ℕ) → m ≡ n → place ≡ bad → (r : Result (Unit {0}) Refused) → Outcome (λ r. r ≡ Ok tt) (side_tests sizes (swap_at m swaps bad) place) r → Outcome (λ r. r ≡ Ok tt) (side_tests sizes (swap_at n swaps bad) bad) r
+  named m bad place long is r o =
+      subst (λ (k : ℕ). Outcome (λ r. r ≡ Ok tt) (side_tests sizes (swap_at k swaps bad) bad) r) long (subst (λ (p : ℕ). Outcome (λ r. r ≡ Ok tt) (side_tests sizes (swap_at m swaps bad) p) r) is o)
+
   -- what the tests of a bad swap answer
   swap_answer : (bad : ℕ) → (Unequal (swap_at n swaps bad) → Even sizes (swap_at n swaps bad) → ⊥) → (r : Result (Unit {0}) Refused) → Outcome (λ r. r ≡ Ok tt) (side_tests sizes (swap_at n swaps bad) bad) r → Stopped (swap_tests n sizes swaps rules bad) (r, rules)
   swap_answer bad none r (inl f) = inl (f.0, ap (λ w. (w, rules)) f.1)
@@ -54,7 +59,7 @@ returns-in-Some c =
     let early : Early s.kit.kinds s.kit.bound s.sizes.now s.costs.now s.swaps.now c.args.rules.now = search rules in
     let inside = c.in-Some.ensures.in_sheet in
     let low = lowest _ _ _ _ _ _ early _ _ c.in-Some.ensures.first in
-    let answer = subst (λ (m : ℕ). Outcome (λ r. r ≡ Ok tt) (side_tests s.sizes.now (swap_at m s.swaps.now c.in-Some.bad) c.in-Some.bad) c.tested.result) early.2.sizes_long c.tested.ensures in
+    let answer = named _ s.kit.bound _ s.costs.now _ c.args.rules.now _ c.in-Some.bad _ early.2.sizes_long (grind arith) _ c.tested.ensures in
     at_swap _ _ _ _ _ _ early c.in-Some.bad low inside _ (swap_answer _ s.kit.bound _ s.costs.now _ c.args.rules.now c.in-Some.bad (low.bad inside) _ answer)
 
 pub returns-in-None : goal.returns-in-None
