@@ -4,7 +4,7 @@
 
 use settle::Table;
 use std::fmt::Write;
-use tell::{Counts, Stdout};
+use tell::{Counts, Number, Stdout};
 use terms::Kit;
 
 // The answer and the load, as in the table.
@@ -20,7 +20,10 @@ fn show(label: &str, table: Table, load: &mut [u16]) {
     let load = Counts(load);
     let _ = match answer {
         Ok(()) => writeln!(Stdout, "{label} done{load}"),
-        Err(refused) => writeln!(Stdout, "{label} refused {}:{load}", u32::from(refused.why)),
+        Err(refused) => {
+            let why = Number(u32::from(refused.why));
+            writeln!(Stdout, "{label} refused {why}:{load}")
+        }
     };
 }
 
@@ -63,11 +66,11 @@ const KIT_N: Table = Table {
 // Which of two loads comes first; only y may have no part of kind 1.
 fn show_earlier(label: &str, costs: &[i32], x: &[u16], y: &[u16]) {
     let first = match compare::earlier(12, costs, x, y) {
-        [] => "empty",
-        [0, ..] => "second",
-        _ => "first",
+        [] => " empty\n",
+        [0, ..] => " second\n",
+        _ => " first\n",
     };
-    let _ = writeln!(Stdout, "{label} {first}");
+    let _ = write!(Stdout, "{label}{first}");
 }
 
 // Twelve kinds of 65,535 parts against nine, all at one cost: a sum of 32 bits would turn the order about.

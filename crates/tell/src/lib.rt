@@ -21,6 +21,19 @@ impl fmt::Write for Stdout {
     }
 }
 
+// A number, its last digit as a piece of its own.
+#[derive(Clone, Copy)]
+pub struct Number(pub u32);
+
+impl fmt::Display for Number {
+    fn fmt<W: fmt::Write>(&self, f: &mut fmt::Formatter<W>) -> fmt::Result {
+        if 9 < self.0 {
+            write!(f, "{}", self.0 / 10)?;
+        }
+        write!(f, "{}", self.0 % 10)
+    }
+}
+
 // Counts, written with a blank before each.
 #[derive(Clone, Copy)]
 pub struct Counts<'a>(pub &'a [u16]);
@@ -28,7 +41,7 @@ pub struct Counts<'a>(pub &'a [u16]);
 impl fmt::Display for Counts<'_> {
     fn fmt<W: fmt::Write>(&self, f: &mut fmt::Formatter<W>) -> fmt::Result {
         for count in self.0 {
-            write!(f, " {count}")?;
+            write!(f, " {}", Number(u32::from(*count)))?;
         }
         Ok(())
     }
