@@ -31,7 +31,8 @@ fn number_of(why: Refusal) -> usize
     u32::from(why) as usize
 }
 
-// The lines of a sheet that was read: the table's rules and the loads, or the refusal of the sheet's swaps. `rules` is the room that is lent.
+// The lines of a sheet that was read: the table's rules and the loads, or the refusal of the sheet's swaps. `rules` is the room that is
+// lent.
 fn show<P: Paper>(
     out: &mut P,
     kit: Kit,

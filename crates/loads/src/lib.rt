@@ -20,14 +20,14 @@ use terms::{Kit, Refusal, Refused};
 // Wide enough for the grade of any load: 12 times 65,535 times 65,535.
 pub type Grade = usize;
 
-// Whether h fits in x. It looks at every count, so that the compiler can test many counts at once.
+// Whether h fits in x. It looks at every count, so that the compiler can test many counts at once; by place, as `measure_of`.
 pub fn fits_in(h: &[u16], x: &[u16]) -> bool
     requires { length h.now ≡ length x.now }
     ensures { Decides (Fits h.now x.now) result }
 {
     let mut fits = true;
-    for (k, count) in x.iter().enumerate() {
-        fits &= h[k] <= *count;
+    for k in 0..x.len() {
+        fits &= h[k] <= x[k];
     }
     fits
 }
@@ -66,14 +66,15 @@ impl Measure for i32 {
     }
 }
 
-// What x counts for: the sum of count times measure, exact.
+// What x counts for: the sum of count times measure, exact. By place: over a zip, or `enumerate`, testing the rows of a table took a fifth
+// longer.
 pub fn measure_of<M: Measure>(measures: &[M], x: &[u16]) -> i64
     requires { (length measures.now ≡ length x.now) × (length x.now ≤ most_kinds) }
     ensures { result ≡ cost (map M.value measures.now) x.now }
 {
     let mut sum = 0;
-    for (k, count) in x.iter().enumerate() {
-        sum += i64::from(*count) * measures[k].wide();
+    for k in 0..x.len() {
+        sum += i64::from(x[k]) * measures[k].wide();
     }
     sum
 }

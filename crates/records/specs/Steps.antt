@@ -32,7 +32,8 @@ pub record Stored {A : Type 0} (reads : ℕ → A) (least most : ℕ) (row : Lis
   pub says : r ≡ all (within least most) row
   pub put : r ≡ true → take (length row) table ≡ map reads row
 
--- how a row keeps the numbers that fields are: each by a code, which is in range just where the number passes its test, and then brings it back
+-- how a row keeps the numbers that fields are: each by a code, which is in range just where the number passes its test, and then
+-- brings it back
 pub record Coded {A : Type 0} (signed : Bool) (num : List ℕ → math.Option A) (test : A → Bool) (reads : ℕ → A) (least most : ℕ) : Type 0 where
   pub code : A → ℕ
   pub keeps : (field : List ℕ) → code_of signed field ≡ math.map code (num field)

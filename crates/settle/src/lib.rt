@@ -83,7 +83,8 @@ impl Table<'_> {
         Ok(())
     }
 
-    // While a row's head fits in the load, the first such row is applied, as often at once as single steps would apply it. Every row is proper.
+    // While a row's head fits in the load, the first such row is applied, as often at once as single steps would apply it. Every row is
+    // proper.
     pub fn settle_proper(&self, load: &mut [u16])
         requires ready { Ready self.now.kit.kinds self.now.kit.bound self.now.sizes.now self.now.costs.now self.now.rules.now self.now.rows }
         requires load_fine { (length load.old ≡ self.now.kit.kinds) × (grade self.now.sizes.now load.old ≤ self.now.kit.bound) }

@@ -53,8 +53,8 @@ fn read_swaps(text: &[u8], from: usize, sizes: &[u16], swaps: &mut [u16]) -> Res
     })
 }
 
-// The load lines, up to the end of the text, the first of them on line `first`: how many there are. A loop of its own beside read_swaps: another word ends
-// the swaps, and is refused among the loads.
+// The load lines, up to the end of the text, the first of them on line `first`: how many there are. A loop of its own beside read_swaps:
+// another word ends the swaps, and is refused among the loads.
 fn read_loads(
     text: &[u8],
     from: usize,

@@ -1,4 +1,5 @@
-// Numbers in text, by functions on a slice and a place; the thin reader over them is lines::LineReader. Decimal, of any length, with no leading zero. A number above every limit is held at CAP.
+// Numbers in text, by functions on a slice and a place; the thin reader over them is lines::LineReader. Decimal, of any length, with no
+// leading zero. A number above every limit is held at CAP.
 #![tactic(auto)]
 
 ghost use Rattle.std.specs.Prelude.{◌≡◌, true, ◌+◌, ◌≤◌, ◌<◌, length, drop, IfSome, option_copied};
@@ -67,7 +68,7 @@ fn is_plain(field: &[u8]) -> bool
 }
 
 // What the digits from a place to the end of its field are worth, in one pass: it ends at the first byte that is no digit, however long
-// the field is.
+// the field is. To look for the end of the field first, as `field` does, costs the length of a text that is then refused.
 #[tactic(auto, using(crate::proofs::Runs::run_past, crate::proofs::Runs::run_ends, crate::proofs::Runs::run_bad, crate::proofs::Runs::run_on, crate::proofs::Runs::run_cut, crate::proofs::Runs::rest_is))]
 fn run_at(s: &[u8], at: usize) -> Option<Num>
     ensures { result ≡ run_from 0 at (drop at s.now) }
