@@ -2,7 +2,7 @@
 #![tactic(auto)]
 
 ghost use Rattle.std.specs.Prelude.{◌≡◌, ◌+◌, ◌≤◌, length};
-ghost use Rattle.print.specs.Lines.{field, counts_end, Room, rule_line, done_line, refused_line};
+ghost use Rattle.print.specs.Lines.{digits, field, counts_end, Room, rule_line, done_line, refused_line};
 ghost use Rattle.print.specs.Lines.{rule_most, done_most, refused_most};
 
 mod paper;
@@ -10,16 +10,27 @@ mod paper;
 use itoa::Buffer;
 pub use paper::{Page, Paper};
 
+// The number's digits, one by one: they are few, and a call to copy a byte or two takes longer.
+fn number<P: Paper>(out: &mut P, n: usize)
+    requires { Room (digits n) (P.place out.old) (P.room out.old) }
+    ensures stored { P.stored (digits n) out.old out.new }
+    ensures len { P.place out.new ≡ P.place out.old + length (digits n) }
+{
+    let mut digits = Buffer::new();
+    let text = digits.format(n).as_bytes();
+    for k in 0..text.len() {
+        out.push(text[k]);
+    }
+}
+
 // A tab and the number.
-#[tactic(auto, using(crate::proofs::Digits::decimal_digits))]
 fn field<P: Paper>(out: &mut P, n: usize)
     requires { Room (field n) (P.place out.old) (P.room out.old) }
     ensures stored { P.stored (field n) out.old out.new }
     ensures len { P.place out.new ≡ P.place out.old + length (field n) }
 {
-    let mut digits = Buffer::new();
     out.push(b'\t');
-    out.append(digits.format(n).as_bytes());
+    number(out, n);
 }
 
 // The counts, and the end of the line.
