@@ -42,7 +42,7 @@ fn joined(weights: &[u32; 12], table: &mut Table, mut x: [u16; 12], mut y: [u16;
     requires { Loaded weights.now (as_rows table.old.items) x × Loaded weights.now (as_rows table.old.items) y × (length table.old.items ≤ 256) }
     ensures { JoinedIn weights.now (as_rows table.old.items) x y (as_rows table.new.items) }
 {
-    match rack::join(weights, table, &mut x, &mut y) {
+    match rack::join_rows(weights, table, &mut x, &mut y) {
         Meeting::Met => {}
         Meeting::First => table.push(Row { head: x, tail: y }),
         Meeting::Second => table.push(Row { head: y, tail: x }),

@@ -1,16 +1,19 @@
 -- Loads within the bound of a sound table: they stay so under its rows, and their rank falls.
 -- Assumes nothing.
-use Rattle.std.specs.Prelude.{ℕ, ◌<◌, ◌≡◌, refl, List, length}
+use Rattle.std.specs.Prelude.{ℕ, ◌*◌, ◌≤◌, ◌<◌, ◌≡◌, refl, List, length}
 use Rattle.std.proofs.Common.{sym, subst, ◌∙◌, inl, inr, arith}
-use Rattle.terms.specs.Load.{Fits}
+use Rattle.terms.specs.Load.{grade, Fits}
 use Rattle.terms.specs.Swaps.{◌∈◌, exchange}
 use Rattle.terms.specs.Table.{Row}
-use Rattle.terms.specs.Settling.{FirstFit, Settles}
-use Rattle.laws.specs.Load.{UpTo, counts_up_to, up_to_more}
+use Rattle.terms.specs.Flat.{row_at}
+use Rattle.terms.specs.Settling.{Proper, FirstFit, Settles}
+use Rattle.laws.specs.Load.{From, UpTo, counts_up_to, up_to_more}
+use Rattle.laws.specs.Flat.{table_sided}
+use Rattle.laws.specs.Numbered.{in_numbered}
 use Rattle.laws.specs.Order.{before_laws}
 use Rattle.laws.specs.Strides.{Walks.stop, Strides}
 use Rattle.laws.specs.Falls.{first_fit_in, Falls, Within, step_falls, stride_falls, settles_within}
-use Rattle.rack.specs.Racked.{costs_of, Sound, Loaded}
+use Rattle.rack.specs.Racked.{costs_of, Sound, Loaded, FlatLoaded}
 
 -- the rank of a load in the cost order, with counts up to 1,000
 abbrev pub rank : List ℕ → List ℕ → ℕ
@@ -66,3 +69,25 @@ pub tail_loaded : {weights : List ℕ} {T : List Row} → Sound weights T → (a
 tail_loaded s a m =
     let p = s.racked.proper a m in
     record { sound = s; long = (s.racked.sided a m).of_tail; within = omega (arith, p.even, p.bounded) }
+
+-- a flat table is sound where each of its rows, by number, is proper
+pub flat_loaded : (weights table : List ℕ) (rows : ℕ) {bound : ℕ} {sizes x : List ℕ} → bound ≤ 1000 → length sizes ≡ 12 → From 1 sizes → length weights ≡ 12 → rows * 24 ≤ length table → ((r : ℕ) → r < rows → Proper bound sizes (costs_of weights) (row_at 12 table r)) → length x ≡ 12 → grade sizes x ≤ bound → FlatLoaded weights table rows x
+flat_loaded weights table rows {bound} {sizes} small sized positive weighed lies proper long within = (
+  lies,
+  record {
+    sound = record {
+      bound = bound;
+      small = small;
+      sizes = sizes;
+      racked = record {
+        sizes_long = sized;
+        positive = positive;
+        weights_long = weighed;
+        sided = table_sided 12 rows table lies;
+        proper = λ a m. let t = in_numbered (row_at 12 table) rows m in subst (Proper bound sizes (costs_of weights)) (sym t.2) (proper t.0 t.1);
+      };
+    };
+    long = long;
+    within = within;
+  },
+)

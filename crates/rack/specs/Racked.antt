@@ -1,8 +1,9 @@
 -- The rows of the working table are proper, for a kit of 12 kinds with weights for costs.
-use Rattle.std.specs.Prelude.{ℕ, ◌≤◌, ◌≡◌, List, map, length, ℤ, pos}
+use Rattle.std.specs.Prelude.{ℕ, ◌*◌, ◌≤◌, ◌≡◌, List, map, length, ℤ, pos}
 use Rattle.terms.specs.Load.{grade}
 use Rattle.terms.specs.Swaps.{◌∈◌}
 use Rattle.terms.specs.Table.{Row}
+use Rattle.terms.specs.Flat.{table_of}
 use Rattle.terms.specs.Settling.{Proper}
 use Rattle.laws.specs.Load.{From}
 use Rattle.laws.specs.Flat.{Sided}
@@ -31,3 +32,7 @@ pub record Loaded (weights : List ℕ) (T : List Row) (x : List ℕ) : Type 0 wh
   pub sound : Sound weights T
   pub long : length x ≡ 12
   pub within : grade sound.sizes x ≤ sound.bound
+
+-- the first `rows` rows of a flat table lie in it, and x is a load within the bound of a sound table of them
+abbrev pub FlatLoaded : List ℕ → List ℕ → ℕ → List ℕ → Type 0
+FlatLoaded weights table rows x = (rows * 24 ≤ length table) × Loaded weights (table_of 12 table rows) x
