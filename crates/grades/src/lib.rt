@@ -147,7 +147,7 @@ impl Work<'_> {
         self.join_pairs(list, g, table)?;
         let rows = table.as_mut_slice();
         settle_tails(rows, base);
-        rack::sort(rows, base);
+        rack::sort_rows(rows, base);
         pairs::enter_all(self.sizes, self.bound as u32, rows, base, list);
         Ok(())
     }

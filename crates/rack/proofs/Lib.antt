@@ -4,3 +4,4 @@ pub mod Loaded
 pub mod Found
 pub mod Joining
 pub mod Held
+pub mod Sorting

@@ -4,3 +4,4 @@ pub mod Racked
 pub mod Stepped
 pub mod Joined
 pub mod Rows
+pub mod Flat
