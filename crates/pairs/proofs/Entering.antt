@@ -11,7 +11,8 @@ use Rattle.rack.specs.Rows.{head_at}
 use Rattle.pairs.specs.declared.Pair.{Pair}
 use Rattle.pairs.specs.declared.Candidate.{Candidate}
 use Rattle.pairs.specs.Pairs.{common, triangle, Pivot, Entry, PairList}
-use Rattle.pairs.specs.Candidates.{Among, Graded, Picked, Sifted}
+use Rattle.pairs.specs.Candidates.{Among, Graded, Picked, Sifted, Taken}
+use Rattle.pairs.proofs.Laws.{triangle_room}
 
 -- one more behind a list
 long_more : {A : Type 0} (l : List A) (a : A) → length (l ++ a ∷ []) ≡ length l + 1
@@ -152,3 +153,11 @@ module _ (bound : ℕ) (sizes : List ℕ) (T : List Row) (j : ℕ) where
         candidate : (i : ℕ) → Among candidates i → Among left i ⊎ Pivot T (list ++ new ∷ []) i j
         candidate i (a, m, e) =
             ⊎_elim (λ (w : a ∈ left). inl (a, w, e)) (λ (f : Fits (head_at T pivot.row) (common T a.row j)). inr (pivot.row, so.right.below pivot in-candidates, subst (λ (k : ℕ). Fits (head_at T pivot.row) (common T k j)) e f, (new, here list new, refl, refl))) (sifted.kept a m)
+
+  -- a pair is taken: it is listed, and there is room for it
+  module _ (candidates left : List Candidate) (list : List Pair) (pair : Pair) (so : Entering bound sizes T j candidates list) (taken : Taken T j candidates pair left) where
+    pub entering_taken : Entering bound sizes T j left (list ++ pair ∷ [])
+    entering_taken = rw taken.paired (entering_next candidates list so taken.pivot taken.among left taken.sifted)
+
+    pub entering_room : j < 256 → length list < 32640
+    entering_room l = omega (arith, so.few, taken.sifted.fewer (taken.pivot, taken.among, refl), triangle_room j l)

@@ -2,3 +2,4 @@
 pub mod Common
 pub mod Entering
 pub mod Laws
+pub mod Flat

@@ -5,11 +5,16 @@ use Rattle.terms.specs.Swaps.{◌∈◌}
 use Rattle.terms.specs.Table.{Row}
 use Rattle.rack.specs.Rows.{head_at}
 use Rattle.pairs.specs.declared.Candidate.{Candidate}
+use Rattle.pairs.specs.declared.Pair.{Pair}
 use Rattle.pairs.specs.Pairs.{common}
 
 -- row i is a candidate
 abbrev pub Among : List Candidate → ℕ → Type 0
 Among candidates i = (a : Candidate) × (a ∈ candidates) × (a.row ≡ i)
+
+-- each candidate is a row below `rows`
+abbrev pub AllBelow : ℕ → List Candidate → Type 0
+AllBelow rows candidates = (a : Candidate) → a ∈ candidates → a.row < rows
 
 -- each candidate is a row below `rows`, with its grade
 pub record Graded (sizes : List ℕ) (T : List Row) (j rows : ℕ) (candidates : List Candidate) : Type 0 where
@@ -28,3 +33,10 @@ pub record Sifted (T : List Row) (p j : ℕ) (candidates left : List Candidate) 
   pub kept : (a : Candidate) → a ∈ candidates → (a ∈ left) ⊎ Fits (head_at T p) (common T a.row j)
   pub fewer : Among candidates p → length left < length candidates
   pub few : length left ≤ length candidates
+
+-- a candidate became the pair with row j, and the candidates were sifted by it
+pub record Taken (T : List Row) (j : ℕ) (candidates : List Candidate) (pair : Pair) (left : List Candidate) : Type 0 where
+  pub pivot : Candidate
+  pub among : pivot ∈ candidates
+  pub paired : pair ≡ record { due = pivot.grade; first = pivot.row; second = j }
+  pub sifted : Sifted T pivot.row j candidates left

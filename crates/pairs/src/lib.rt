@@ -1,17 +1,19 @@
 // The list of pairs: which pairs of rows of the working table are to be joined, and at which grade.
 #![tactic(auto)]
 
-ghost use Rattle.std.specs.Prelude.{◌≡◌, ℕ, ◌+◌, ◌<◌, ◌≤◌, List, length, MatchOption, Contains};
+ghost use Rattle.std.specs.Prelude.{◌≡◌, ℕ, ◌+◌, ◌*◌, ◌<◌, ◌≤◌, List, [], ◌∷◌, ◌++◌, length, MatchOption, Contains};
 ghost use Rattle.std.specs.Iterator.{IsFinite, Drains};
 ghost use Rattle.terms.specs.Decides.{Decides};
+ghost use Rattle.terms.specs.Flat.{table_of};
 ghost use Rattle.terms.specs.Load.{Fits, grade};
 ghost use Rattle.laws.specs.Load.{join, UpTo};
 ghost use Rattle.rack.specs.Rows.{as_rows, head_at};
 ghost use Rattle.pairs.specs.Pairs.{common, PairList, NextAbove, Enterable};
-ghost use Rattle.pairs.specs.Candidates.{Picked, Sifted};
+ghost use Rattle.pairs.specs.Flat.{pairs_of, FlatPairList, FlatEnterable};
+ghost use Rattle.pairs.specs.Candidates.{AllBelow, Picked, Sifted, Taken};
 
 use arrayvec::ArrayVec;
-use rack::Row;
+use rack::{Row, Table};
 
 // A pair of rows of the working table that is to be joined, and the grade at which it is due.
 #[derive(Clone, Copy, Default)]
@@ -98,8 +100,22 @@ fn sift(table: &[Row], p: usize, j: usize, candidates: &mut ArrayVec<Candidate, 
     candidates.retain(|a| !has_pivot(table, p, usize::from(a.row), j));
 }
 
+// The next pair with row j, which is below 256: a candidate of least grade, by which the candidates are sifted. None where none is left.
+fn next_pair(table: &[Row], j: usize, candidates: &mut ArrayVec<Candidate, 256>) -> Option<Pair>
+    requires { (j < 256) × (j < length table.now) × AllBelow j candidates.old.items }
+    ensures { MatchOption result (length candidates.old.items ≡ 0) (λ pair. Taken (as_rows table.now) j candidates.old.items pair candidates.new.items) }
+{
+    let pivot = least(candidates)?;
+    sift(table, usize::from(pivot.row), j, candidates);
+    Some(Pair {
+        due: pivot.grade,
+        first: pivot.row,
+        second: j as u8,
+    })
+}
+
 // Enters row j, which is below 256: lists pairs (p, j) until each row below j within the bound has a pivot.
-pub fn enter(
+pub fn enter_row(
     sizes: &[u16; 12],
     bound: u32,
     table: &[Row],
@@ -110,14 +126,67 @@ pub fn enter(
     ensures { PairList bound sizes.now (as_rows table.now) (j + 1) list.new.items }
 {
     let mut candidates = candidates(sizes, bound, table, j);
-    while let Some(pivot) = least(&candidates) {
-        list.push(Pair {
-            due: pivot.grade,
-            first: pivot.row,
-            second: j as u8,
-        });
-        sift(table, usize::from(pivot.row), j, &mut candidates);
+    while let Some(pair) = next_pair(table, j, &mut candidates) {
+        list.push(pair);
     }
+}
+
+// Twelve counts that are lent, held by themselves.
+fn twelve(counts: &[u16]) -> [u16; 12]
+    requires { length counts.now ≡ 12 }
+    ensures { result ≡ counts.now }
+{
+    let mut held = [0; 12];
+    held.copy_from_slice(counts);
+    held
+}
+
+// The first rows of a flat table, held as rows of the working table.
+fn hold_rows(table: &[u16], rows: usize) -> Table
+    requires { (rows ≤ 256) × (rows * 24 ≤ length table.now) }
+    ensures { as_rows result.items ≡ table_of 12 table.now rows }
+{
+    let mut held = Table::new();
+    for r in 0..rows {
+        let row = loads::row_of(12, table, r);
+        held.push(Row {
+            head: twelve(row.head),
+            tail: twelve(row.tail),
+        });
+    }
+    held
+}
+
+// The pair written behind the first `pairs` of two flat lists. Gives the new number of pairs.
+fn write_pair(pair: Pair, due: &mut [u16], mates: &mut [u16], pairs: usize) -> usize
+    requires { (pairs < length due.old) × (pairs < length mates.old) }
+    ensures { pairs_of due.new mates.new result ≡ pairs_of due.old mates.old pairs ++ pair ∷ [] }
+{
+    due[pairs] = pair.due;
+    mates[pairs] = u16::from(pair.first) * 256 + u16::from(pair.second);
+    pairs + 1
+}
+
+// Enters row j of a flat table: what enter_row lists is written behind the first `pairs` of two flat lists. Gives the new number of pairs.
+pub fn enter(
+    sizes: &[u16],
+    bound: u32,
+    table: &[u16],
+    j: usize,
+    due: &mut [u16],
+    mates: &mut [u16],
+    pairs: usize,
+) -> usize
+    requires { FlatEnterable bound sizes.now table.now (j + 1) × (length due.old ≡ 32640) × (length mates.old ≡ 32640) × FlatPairList bound sizes.now table.now j due.old mates.old pairs }
+    ensures { FlatPairList bound sizes.now table.now (j + 1) due.new mates.new result }
+{
+    let rows = hold_rows(table, j + 1);
+    let mut candidates = candidates(&twelve(sizes), bound, &rows, j);
+    let mut count = pairs;
+    while let Some(pair) = next_pair(&rows, j, &mut candidates) {
+        count = write_pair(pair, due, mates, count);
+    }
+    count
 }
 
 // Enters the rows from base on. By number: each turn works on the whole table and names the row.
@@ -132,7 +201,7 @@ pub fn enter_all(
     ensures { PairList bound sizes.now (as_rows table.now) (length table.now) list.new.items }
 {
     for j in base..table.len() {
-        enter(sizes, bound, table, j, list);
+        enter_row(sizes, bound, table, j, list);
     }
 }
 

@@ -1,0 +1,56 @@
+-- Rows held of a flat table, and pairs listed in two flat lists.
+-- Assumes nothing.
+use Rattle.std.specs.Prelude.{ℕ, ◌+◌, ◌*◌, ◌<◌, ◌≡◌, List, [], ◌∷◌, ◌++◌, length, set}
+use Rattle.std.proofs.Common.{ap, ap₂, sym, refl, ◌∙◌, arith}
+use Rattle.std.proofs.lemmas.List.{map-append, length-map, get_or-set_same, get_or-set_other}
+use Rattle.std.proofs.lemmas.Nat.{div-mul-add, mod-mul-add}
+use Rattle.terms.specs.Flat.{left_at, right_at, row_at, table_of}
+use Rattle.terms.specs.Table.{Row}
+use Rattle.laws.specs.Numbered.{numbered_long, numbered_more, numbered_same, item_at}
+use Rattle.rack.specs.Rows.{as_row, as_rows, blank, head_at}
+use Rattle.rack.specs.declared.Row.{Row as Held}
+use Rattle.pairs.specs.declared.Pair.{Pair}
+use Rattle.pairs.specs.Pairs.{PairList}
+use Rattle.pairs.specs.Flat.{pair_at, pairs_of}
+use Rattle.pairs.proofs.Laws.{pair_list_table}
+
+-- ---- rows held
+
+module _ (flat : List ℕ) (r : ℕ) (held : List Held) (so : as_rows held ≡ table_of 12 flat r) where
+  pub held_long : length held ≡ r
+  held_long = sym (length-map held as_row) ∙ ap (λ (T : List Row). length T) so ∙ numbered_long (row_at 12 flat) 0 r
+
+  pub held_more : (row : Held) → row.head ≡ left_at 12 flat r → row.tail ≡ right_at 12 flat r → as_rows (held ++ row ∷ []) ≡ table_of 12 flat (r + 1)
+  held_more row h t =
+      map-append as_row held (row ∷ [])
+      ∙ ap₂ (λ (T : List Row) (a : Row). T ++ a ∷ []) so (ap₂ (λ (x y : List ℕ). record { head = x; tail = y }) h t)
+      ∙ sym (numbered_more (row_at 12 flat) r)
+
+-- ---- the heads of a flat table
+
+pub head_there : (flat : List ℕ) (n r : ℕ) → r < n → head_at (table_of 12 flat n) r ≡ left_at 12 flat r
+head_there flat n r l = ap (λ (a : Row). a.head) (item_at (row_at 12 flat) blank n r l)
+
+-- a list is as good for one row more
+pub listed_on : (bound : ℕ) (sizes flat : List ℕ) (n : ℕ) (list : List Pair) → PairList bound sizes (table_of 12 flat n) n list → PairList bound sizes (table_of 12 flat (n + 1)) n list
+listed_on bound sizes flat n =
+    pair_list_table (table_of 12 flat n) (table_of 12 flat (n + 1)) n (λ r l. head_there flat n r l ∙ sym (head_there flat (n + 1) r (omega arith))) bound sizes
+
+-- ---- pairs listed
+
+module _ (due mates : List ℕ) (pairs : ℕ) where
+  pub pairs_long : length (pairs_of due mates pairs) ≡ pairs
+  pairs_long = numbered_long (pair_at due mates) 0 pairs
+
+  -- a pair is written at the next place, its rows as the number m
+  module _ (pair : Pair) (m : ℕ) (is : m ≡ pair.first * 256 + pair.second) (low : pair.second < 256) (p : pairs < length due) (q : pairs < length mates) where
+    written : pair_at (set due pairs pair.due) (set mates pairs m) pairs ≡ pair
+    written = rw (get_or-set_same due pairs pair.due 0 p, get_or-set_same mates pairs m 0 q, is, div-mul-add pair.first 256 pair.second low, mod-mul-add pair.first 256 pair.second low) refl
+
+    others : (i : ℕ) → i < pairs → pair_at (set due pairs pair.due) (set mates pairs m) i ≡ pair_at due mates i
+    others i l = rw (get_or-set_other due pairs i pair.due 0 (omega arith), get_or-set_other mates pairs i m 0 (omega arith)) refl
+
+    pub pairs_more : pairs_of (set due pairs pair.due) (set mates pairs m) (pairs + 1) ≡ pairs_of due mates pairs ++ pair ∷ []
+    pairs_more =
+        numbered_more (pair_at (set due pairs pair.due) (set mates pairs m)) pairs
+        ∙ ap₂ (λ (l : List Pair) (a : Pair). l ++ a ∷ []) (numbered_same (pair_at (set due pairs pair.due) (set mates pairs m)) (pair_at due mates) pairs others) written
