@@ -88,7 +88,7 @@ impl Sheet<'_> {
         let sizes = padding::widen_sizes(self.sizes);
         let weights = padding::weigh_all(self.sizes, self.costs);
         let swaps = self.stamped(&sizes);
-        grades::all_grades(&sizes, &weights, self.kit.bound, &swaps, table, room);
+        grades::grow(&sizes, &weights, self.kit.bound, &swaps, table, room);
     }
 
     // The finished table in the rule table, or no room for it and 0 everywhere.

@@ -6,3 +6,4 @@ pub mod Listed
 pub mod Ends
 pub mod Graded
 pub mod Whole
+pub mod Laying

@@ -1,8 +1,9 @@
 // Completion, grade by grade, over a working kit of 12 kinds: the loops whose meaning is the theory's.
 #![tactic(auto)]
 
-ghost use Rattle.std.specs.Prelude.{◌≡◌, ℕ, ◌≤◌, ◌<◌, List, length, MatchResult};
+ghost use Rattle.std.specs.Prelude.{◌≡◌, ℕ, suc, ◌+◌, ◌*◌, ◌≤◌, ◌<◌, List, length, take, drop, MatchResult};
 ghost use Rattle.terms.specs.Swaps.{Swap, exchange};
+ghost use Rattle.terms.specs.Flat.{numbered, swap_at, table_of};
 ghost use Rattle.laws.specs.Load.{join, UpTo};
 ghost use Rattle.rack.specs.Racked.{Loaded};
 ghost use Rattle.rack.specs.Rows.{as_rows};
@@ -13,6 +14,9 @@ ghost use Rattle.grades.specs.Stamped.{as_sheet, stamps_of};
 use arrayvec::ArrayVec;
 use pairs::{PAIRS, Pair};
 use rack::{Meeting, Row, Table};
+use sheets::{LentSheet, StampedSheet};
+
+mod sheets;
 
 // A swap with its stamp: its grade where that is within the bound, else 0, at which nothing is due.
 #[derive(Clone, Copy, Default)]
@@ -22,17 +26,40 @@ pub struct Stamped {
     pub stamp: u16,
 }
 
+// The sheet that the program holds.
+impl StampedSheet for &[Stamped] {
+    ghost sheet = { λ s. as_sheet s.now };
+
+    ghost stamps = { λ s. stamps_of s.now };
+
+    fn count(&self) -> usize {
+        self.len()
+    }
+
+    fn stamp(&self, k: usize) -> u16 {
+        self[k].stamp
+    }
+
+    fn sides(&self, k: usize) -> ([u16; 12], [u16; 12]) {
+        (self[k].left, self[k].right)
+    }
+
+    fn next_above(&self, g: usize, limit: usize) -> usize {
+        pairs::next_above(self.iter().map(|swap| swap.stamp), g, limit)
+    }
+}
+
 // More rows were made than there is room for.
 #[derive(Clone, Copy)]
 struct NoRoom;
 
 // What completion works on: the sizes and weights of a kit of 12 kinds with its bound, the swaps, and the number of rows that there is room for.
-#[derive(Clone, Copy)]
-struct Work<'a> {
+#[derive(Drop)]
+struct Work<'a, S> {
     sizes: &'a [u16; 12],
     weights: &'a [u32; 12],
     bound: usize,
-    swaps: &'a [Stamped],
+    swaps: S,
     room: usize,
     ghost few: { room ≤ 256 },
 }
@@ -85,16 +112,17 @@ fn settle_tails(table: &mut [Row], base: usize)
     }
 }
 
-impl Work<'_> {
+impl<S: StampedSheet> Work<'_, S> {
     // The swaps of grade g joined, as far as there is room.
     fn join_swaps(&self, g: u16, table: &mut Table) -> Result<(), NoRoom>
-        requires { Within self.now.weights.now (as_sheet self.now.swaps.now) (stamps_of self.now.swaps.now) g (as_rows table.old.items) × (length table.old.items ≤ self.now.room) }
-        ensures done { SwapsDone self.now.weights.now (as_sheet self.now.swaps.now) (stamps_of self.now.swaps.now) g (as_rows table.old.items) self.now.room (as_rows table.new.items) }
+        requires { Within self.now.weights.now (S.sheet self.now.swaps) (S.stamps self.now.swaps) g (as_rows table.old.items) × (length table.old.items ≤ self.now.room) }
+        ensures done { SwapsDone self.now.weights.now (S.sheet self.now.swaps) (S.stamps self.now.swaps) g (as_rows table.old.items) self.now.room (as_rows table.new.items) }
         ensures room { MatchResult result (λ _. length table.new.items ≤ self.now.room) (λ _. self.now.room < length table.new.items) }
     {
-        for swap in self.swaps {
-            if swap.stamp == g {
-                joined(self.weights, table, swap.left, swap.right);
+        for k in 0..self.swaps.count() {
+            if self.swaps.stamp(k) == g {
+                let (left, right) = self.swaps.sides(k);
+                joined(self.weights, table, left, right);
                 if self.room < table.len() {
                     return Err(NoRoom);
                 }
@@ -137,9 +165,9 @@ impl Work<'_> {
     ) -> Result<(), NoRoom>
         ghost weights: { List ℕ }
         requires weighed { weights ≡ self.now.weights.now }
-        requires at_grade { ((w : Working self.now.bound self.now.sizes.now self.now.weights.now (as_sheet self.now.swaps.now) (stamps_of self.now.swaps.now)) × AtGrade w g (as_rows table.old.items)) × PairList self.now.bound self.now.sizes.now (as_rows table.old.items) (length (as_rows table.old.items)) list.old.items }
+        requires at_grade { ((w : Working self.now.bound self.now.sizes.now self.now.weights.now (S.sheet self.now.swaps) (S.stamps self.now.swaps)) × AtGrade w g (as_rows table.old.items)) × PairList self.now.bound self.now.sizes.now (as_rows table.old.items) (length (as_rows table.old.items)) list.old.items }
         requires has_room { (1 ≤ g) × (g ≤ self.now.bound) × (length table.old.items ≤ self.now.room) }
-        ensures done { GradeDone self.now.bound self.now.sizes.now self.now.weights.now (as_sheet self.now.swaps.now) (stamps_of self.now.swaps.now) g (as_rows table.old.items) self.now.room (as_rows table.new.items) list.new.items }
+        ensures done { GradeDone self.now.bound self.now.sizes.now self.now.weights.now (S.sheet self.now.swaps) (S.stamps self.now.swaps) g (as_rows table.old.items) self.now.room (as_rows table.new.items) list.new.items }
         ensures room { MatchResult result (λ _. length table.new.items ≤ self.now.room) (λ _. self.now.room < length table.new.items) }
     {
         let base = table.len();
@@ -151,11 +179,29 @@ impl Work<'_> {
         pairs::enter_all(self.sizes, self.bound as u32, rows, base, list);
         Ok(())
     }
+
+    // Every grade up to the bound at which anything is due, from an empty table. It has more rows than the room where there is none for
+    // them all: its length tells, as `AllDone` says. The cast loses nothing: a grade is at most the bound.
+    fn every_grade(&self, table: &mut Table)
+        requires { Working self.now.bound self.now.sizes.now self.now.weights.now (S.sheet self.now.swaps) (S.stamps self.now.swaps) }
+        ensures { AllDone self.now.bound self.now.sizes.now self.now.weights.now (S.sheet self.now.swaps) self.now.room (as_rows table.new.items) }
+    {
+        table.clear();
+        let past = self.bound + 1;
+        let mut list = ArrayVec::new();
+        let mut g = self.swaps.next_above(0, past);
+        while g < past {
+            if self.one_grade(g as u16, table, &mut list).is_err() {
+                return;
+            }
+            let limit = pairs::next_above(list.iter().map(|pair| pair.due), g, past);
+            g = self.swaps.next_above(g, limit);
+        }
+    }
 }
 
-// Every grade up to the bound at which anything is due, from an empty table. It has more rows than the room where there is none for them
-// all: its length tells, as `AllDone` says. The cast loses nothing: a grade is at most the bound.
-pub fn all_grades(
+// Every grade, over swaps that the program holds, in the working table: its length tells whether there was room.
+pub fn grow(
     sizes: &[u16; 12],
     weights: &[u32; 12],
     bound: usize,
@@ -173,15 +219,53 @@ pub fn all_grades(
         swaps,
         room,
     };
-    table.clear();
-    let past = bound + 1;
-    let mut list = ArrayVec::new();
-    let mut g = pairs::next_above(swaps.iter().map(|swap| swap.stamp), 0, past);
-    while g < past {
-        if work.one_grade(g as u16, table, &mut list).is_err() {
-            return;
-        }
-        let limit = pairs::next_above(list.iter().map(|pair| pair.due), g, past);
-        g = pairs::next_above(swaps.iter().map(|swap| swap.stamp), g, limit);
+    work.every_grade(table);
+}
+
+// The rows laid flat, from the start of a table: what stands past them stays.
+fn lay(rows: &[Row], flat: &mut [u16])
+    requires { length rows.now * 24 ≤ length flat.old }
+    ensures rows { table_of 12 flat.new (length rows.now) ≡ as_rows rows.now }
+    ensures rest { drop (length rows.now * 24) flat.new ≡ drop (length rows.now * 24) flat.old }
+{
+    for (r, row) in rows.iter().enumerate() {
+        let at = r * 24;
+        flat[at..at + 12].copy_from_slice(&row.head);
+        flat[at + 12..at + 24].copy_from_slice(&row.tail);
     }
+}
+
+// Every grade, over what is lent flat: `count` swaps and stamps, and a table of a row more than the room. The number of rows tells of room.
+pub fn all_grades(
+    sizes: &[u16],
+    weights: &[u32],
+    bound: usize,
+    swaps: &[u16],
+    stamps: &[u16],
+    count: usize,
+    table: &mut [u16],
+    room: usize,
+) -> usize
+    requires working { Working bound sizes.now weights.now (numbered (swap_at 12 swaps.now) 0 count) (take count stamps.now) }
+    requires lent { (count * 24 ≤ length swaps.now) × (count ≤ length stamps.now) }
+    requires has_room { (room ≤ 256) × (room * 24 + 24 ≤ length table.old) }
+    ensures done { AllDone bound sizes.now weights.now (numbered (swap_at 12 swaps.now) 0 count) room (table_of 12 table.new result) }
+    ensures rows { (result ≤ suc room) × (length table.new ≡ length table.old) }
+{
+    let mut weighed = [0; 12];
+    weighed.copy_from_slice(weights);
+    let work = Work {
+        sizes: &sheets::twelve(sizes),
+        weights: &weighed,
+        bound,
+        swaps: LentSheet {
+            swaps,
+            stamps: &stamps[..count],
+        },
+        room,
+    };
+    let mut rows = Table::new();
+    work.every_grade(&mut rows);
+    lay(&rows, table);
+    rows.len()
 }

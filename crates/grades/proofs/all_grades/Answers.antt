@@ -1,36 +1,12 @@
-use Rattle.std.proofs.Common.{◌+◌, map, refl, sym, ◌∙◌, arith, rules}
-use Rattle.std.proofs.lemmas.Iterator.{YieldsList-from_slice, YieldsList-from_map}
-use Rattle.std.proofs.lemmas.Iterator.Consumers.{YieldsList-at}
-use Rattle.std.proofs.lemmas.List.{length-map}
-use Rattle.rack.specs.Rows.{as_row}
-use Rattle.pairs.specs.declared.Pair.{Pair}
-use Rattle.pairs.specs.Pairs.{NextAbove}
-use Rattle.grades.specs.Stamped.{stamps_of}
-use Rattle.grades.specs.declared.Stamped.{Stamped}
-use Rattle.grades.proofs.Whole.{at_error, at_value, next_of, grading_start, grading_full, grading_next, grading_end}
-use Rattle.grades.proofs.Joins.{rows_in, rows_over}
+use Rattle.std.proofs.Common.{◌≡◌, sym, ap, ◌∙◌, length, take, length-take-le}
+use Rattle.terms.specs.Flat.{table_of}
+use Rattle.rack.specs.Rows.{as_rows}
 use Rattle.grades.proofs.all_grades.Goals as goal
 
-pub loop-g-init : goal.loop-g-init
-loop-g-init c =
-    let stamps : NextAbove (stamps_of c.args.swaps.now) 0 (c.args.bound + 1) c.next_above-g.result = next_of c.next_above-g.ensures (YieldsList-from_map _ (λ (a : Stamped). a.stamp) (YieldsList-at c.map.ensures.source (YieldsList-from_slice c.args.swaps.now c.iter.ensures.rest)) c.map.ensures.closure (λ x r q k. search rules)) in
-    rw (c.new-list.ensures, c.clear.ensures) (grading_start stamps)
-
-pub one_grade-requires : goal.one_grade-requires
-one_grade-requires c =
-    let s = c.loop-g.invariant in
-    let long = length-map c.loop-g.table.items as_row in
-    (refl, (((c.requires.0, s.at c.requires.0), s.entered), (s.some, omega arith, omega (arith, s.roomy, long))))
-
-pub returns-then-is_err : goal.returns-then-is_err
-returns-then-is_err c = grading_full c.loop-g.invariant c.one_grade.ensures.done (rows_over c.one_grade.new.table.items refl (at_error _ _ c.one_grade.result c.one_grade.ensures.room (sym c.is_err.ensures.value ∙ c.if-is_err.true)))
-
-pub loop-g-preserved : goal.loop-g-preserved
-loop-g-preserved c =
-    let list = c.one_grade.new.list.items in
-    let dues : NextAbove (map (λ (a : Pair). a.due) list) c.loop-g.g (c.args.bound + 1) c.next_above-limit.result = next_of c.next_above-limit.ensures (YieldsList-from_map _ (λ (a : Pair). a.due) (YieldsList-at c.map-in-loop-g.ensures.source (YieldsList-from_slice list (search rules))) c.map-in-loop-g.ensures.closure (λ x r q k. search rules)) in
-    let stamps : NextAbove (stamps_of c.args.swaps.now) c.loop-g.g c.next_above-limit.result c.next_above-g-in-loop-g.result = next_of c.next_above-g-in-loop-g.ensures (YieldsList-from_map _ (λ (a : Stamped). a.stamp) (YieldsList-at c.map-in-loop-g-2.ensures.source (YieldsList-from_slice c.args.swaps.now c.iter-in-loop-g-2.ensures.rest)) c.map-in-loop-g-2.ensures.closure (λ x r q k. search rules)) in
-    grading_next c.loop-g.invariant c.one_grade.ensures.done (rows_in c.one_grade.new.table.items refl (at_value _ _ c.one_grade.result c.one_grade.ensures.room (sym c.is_err.ensures.value ∙ c.if-is_err.false))) dues stamps
-
-pub returns : goal.returns
-returns c = grading_end c.loop-g.invariant c.requires.0 (omega arith)
+pub returns-clause-done : goal.returns-clause-done
+returns-clause-done c =
+    let a = c.args in
+    let long : length (take a.count a.stamps.now) ≡ a.count = length-take-le a.count a.stamps.now c.requires.lent.1 in
+    let laid : table_of 12 c.lay.new.flat c.len.result ≡ as_rows c.every_grade.new.table.items =
+    ap (table_of 12 c.lay.new.flat) (c.len.ensures.value ∙ ap length (sym c.deref.ensures.0)) ∙ c.lay.ensures.rows ∙ ap as_rows c.deref.ensures.0 in
+    rw (c.twelve.ensures, c.copy_from_slice.ensures.after, long, ← laid) at c.every_grade.ensures

@@ -6,8 +6,8 @@ use Rattle.grades.specs.Stamped.{as_sheet, stamps_of}
 use Rattle.complete.specs.Grown.{working, grown, sheet_widened, stamps_long, sheet_stamped}
 use Rattle.complete.proofs.Sheet.grow.Goals as goal
 
-pub all_grades-requires : goal.all_grades-requires
-all_grades-requires c =
+pub grow-requires : goal.grow-requires
+grow-requires c =
     let s = c.args.self.now in
     let n = s.kit.kinds in
     let bound = s.kit.bound in
@@ -25,4 +25,4 @@ returns c =
     let sizes = c.widen_sizes-sizes.ensures ∙ ap (λ (i : ℕ). widen_sizes i s.sizes.now) sized in
     let weighed = c.weigh_all-weights.ensures ∙ ap (λ (i : ℕ). weights i s.sizes.now s.costs.now) sized in
     let swaps = ap as_sheet (c.deref.ensures.0 ∙ c.stamped-swaps.ensures) ∙ sheet_widened s.kit.kinds s.kit.bound c.widen_sizes-sizes.result s.swaps.now in
-    grown c.requires.0 _ _ _ sizes weighed swaps _ _ c.all_grades.ensures
+    grown c.requires.0 _ _ _ sizes weighed swaps _ _ c.grow.ensures
