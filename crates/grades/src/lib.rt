@@ -188,8 +188,12 @@ impl<S: StampedSheet> Work<'_, S> {
     {
         table.clear();
         let past = self.bound + 1;
-        let mut list = ArrayVec::new();
         let mut g = self.swaps.next_above(0, past);
+        if past <= g {
+            // nothing is due: without this the list, of 130 KB, would be cleared for nothing
+            return;
+        }
+        let mut list = ArrayVec::new();
         while g < past {
             if self.one_grade(g as u16, table, &mut list).is_err() {
                 return;

@@ -12,6 +12,9 @@ use Rattle.grades.proofs.Work.every_grade.Goals as goal
 pub loop-g-init : goal.loop-g-init
 loop-g-init g c = rw (c.new-list.ensures, c.clear.ensures) (grading_start c.next_above-g.ensures)
 
+pub returns-then-past-g : goal.returns-then-past-g
+returns-then-past-g g c = rw c.clear.ensures (grading_end (grading_start c.next_above-g.ensures) c.requires (omega arith))
+
 pub one_grade-requires : goal.one_grade-requires
 one_grade-requires g c =
     let s = c.loop-g.invariant in
