@@ -1,7 +1,9 @@
 -- Rows laid flat as rows of m counts a side: widened where they have fewer, and cut back where they were widened before.
 --     resize_more       one row more
 --     resize_next       and that of a table
+--     resize_flat       and that of a flat table
 --     table_resized     the rows read again
+--     resized_read      and those of a flat table
 --     swaps_widened     a flat sheet, widened, read as swaps
 --     cut_back          rows of n counts a side, widened and cut back, are the rows
 -- Assumes nothing.
@@ -11,8 +13,9 @@ use Rattle.std.proofs.lemmas.List.{map-append, length-replicate, length-map, tak
 use Rattle.terms.specs.Load.{zeros}
 use Rattle.terms.specs.Limits.{All, most_kinds}
 use Rattle.terms.specs.Table.{Row}
-use Rattle.terms.specs.Flat.{numbered, swap_at, table_of, laid, filled}
+use Rattle.terms.specs.Flat.{numbered, row_at, swap_at, table_of, laid, filled}
 use Rattle.laws.specs.Load.{all_members}
+use Rattle.laws.specs.Numbered.{numbered_long, numbered_more}
 use Rattle.laws.specs.Flat.{Sides, table_sided}
 use Rattle.laws.specs.Laid.{side, over, filled_more, table_laid, as_swap, swaps_rows, row_same}
 use Rattle.padding.specs.Widen.{widen, widen_swap, widen_row, resize, resize_row}
@@ -46,9 +49,13 @@ all_sides m (a ∷ T) = (record { of_head = resize_long m a.head; of_tail = resi
 abbrev pub resized : ℕ → List Row → List Row
 resized m T = map (resize_row m) T
 
--- a table with a row written as its row r of m counts a side
+-- a table with two sides written as its row r of m counts a side
+abbrev pub sides_over : ℕ → List ℕ → List ℕ → ℕ → List ℕ → List ℕ
+sides_over m x y r out = over (over out (r * (2 * m)) (take m x)) (r * (2 * m) + m) (take m y)
+
+-- and with a row
 abbrev pub row_over : ℕ → Row → ℕ → List ℕ → List ℕ
-row_over m a r out = over (over out (r * (2 * m)) (take m a.head)) (r * (2 * m) + m) (take m a.tail)
+row_over m a r out = sides_over m a.head a.tail r out
 
 pub over_long : (l : List ℕ) (at : ℕ) (x : List ℕ) → at + length x ≤ length l → length (over l at x) ≡ length l
 over_long l at x h =
@@ -82,12 +89,25 @@ resize_next m long T r d h room out e =
     subst (λ (i : ℕ). i * (2 * m) + 2 * m ≤ long → row_over m a i out ≡ filled long (resized m (take r T ++ (a ∷ [])))) at (λ l. resize_more m long a (take r T) l out e) room
     ∙ ap (λ (U : List Row). filled long (resized m U)) (sym (take_more T r d h))
 
+-- and of a flat table
+pub resize_flat : (n m long : ℕ) (flat : List ℕ) (r : ℕ) → r * (2 * m) + 2 * m ≤ long → (out : List ℕ) → out ≡ filled long (resized m (table_of n flat r)) → row_over m (row_at n flat r) r out ≡ filled long (resized m (table_of n flat (r + 1)))
+resize_flat n m long flat r room out e =
+    let a = row_at n flat r in
+    let T = table_of n flat r in
+    subst (λ (i : ℕ). i * (2 * m) + 2 * m ≤ long → row_over m a i out ≡ filled long (resized m (T ++ (a ∷ [])))) (numbered_long (row_at n flat) 0 r) (λ l. resize_more m long a T l out e) room
+    ∙ ap (λ (U : List Row). filled long (resized m U)) (sym (numbered_more (row_at n flat) r))
+
 -- ---- what is read again
 
 pub table_resized : (m long : ℕ) (T : List Row) → table_of m (filled long (resized m T)) (length T) ≡ resized m T
 table_resized m long T =
     ap (table_of m (filled long (resized m T))) (sym (length-map T (resize_row m)))
     ∙ table_laid m (resized m T) (zeros (long - length (laid (resized m T)))) (all_sides m T)
+
+pub resized_read : (n m long : ℕ) (flat : List ℕ) (rows : ℕ) → table_of m (filled long (resized m (table_of n flat rows))) rows ≡ resized m (table_of n flat rows)
+resized_read n m long flat rows =
+    let T = table_of n flat rows in
+    ap (table_of m (filled long (resized m T))) (sym (numbered_long (row_at n flat) 0 rows)) ∙ table_resized m long T
 
 pub table_sides : (n rows : ℕ) (flat : List ℕ) → rows * (2 * n) ≤ length flat → All (Sides n) (table_of n flat rows)
 table_sides n rows flat h = all_members (table_of n flat rows) (table_sided n rows flat h)
