@@ -2,8 +2,8 @@
 // with a number, or the line feed; `field_at` finds it, on a plain slice.
 #![tactic(auto)]
 
-ghost use Rattle.std.specs.Prelude.{◌≡◌, drop};
-ghost use Rattle.lines.specs.Fields.{which_word, word_in, minus_in, number_in, field_at};
+ghost use Rattle.std.specs.Prelude.{MatchOption, ◌≡◌, drop};
+ghost use Rattle.lines.specs.Fields.{number_of_word, which_word, word_in, minus_in, number_in, field_at};
 
 // The words that begin a line.
 #[derive(Clone, Copy, PartialEq, Eq, Debug)]
@@ -13,6 +13,23 @@ pub enum Word {
     Cost,
     Swap,
     Load,
+}
+
+impl Word {
+    // The word of a number, if it is a word's.
+    #[tactic(auto, using(crate::proofs::Named::no_word))]
+    pub fn of(number: u8) -> Option<Word>
+        ensures { MatchOption result ((word : _) → number_of_word word ≡ number → ⊥) (λ word. number_of_word word ≡ number) }
+    {
+        match number {
+            0 => Some(Word::Kit),
+            1 => Some(Word::Size),
+            2 => Some(Word::Cost),
+            3 => Some(Word::Swap),
+            4 => Some(Word::Load),
+            _ => None,
+        }
+    }
 }
 
 // Each with the place after it. `Minus` is a number other than 0 with a minus before it.

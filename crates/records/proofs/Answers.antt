@@ -1,6 +1,6 @@
 -- What the functions over one line answer, from the row that was read. Assumes nothing.
-use Rattle.std.specs.Prelude.{ℕ, zero, suc, ◌+◌, ◌-◌, ◌*◌, min, ◌≤◌, ◌<◌, ◌≡◌, List, [], ◌∷◌, ◌++◌, Bool, true, false, cond, not, ◌&&◌, ltb, eqb, ℤ, length, get_or, take, drop, Option, Some, None, Result, Ok, Err, ⊤, refl}
-use Rattle.std.proofs.Common.{ap, sym, ◌∙◌, inl, inr, arith, lt-ltb, le-ltb, ltb-true, eq-eqb, ne_eqb, eqb-true, take_at, drop_at, drop_of_length-le, length-drop, length-take-le, append-nil, take-take, drop-drop, mul-le-mul_right, add-mul, one-mul, zero-add, suc-add}
+use Rattle.std.specs.Prelude.{ℕ, zero, suc, ◌+◌, ◌-◌, ◌*◌, min, ◌≤◌, ◌<◌, ◌≡◌, List, [], ◌∷◌, ◌++◌, Bool, true, false, cond, not, ltb, eqb, ℤ, length, get_or, take, drop, Option, Some, Result, Ok, Err, ⊤, refl}
+use Rattle.std.proofs.Common.{ap, sym, ◌∙◌, inl, inr, arith, lt-ltb, le-ltb, ltb-true, eq-eqb, eqb-true, take_at, drop_at, drop_of_length-le, length-drop, length-take-le, append-nil, take-take, drop-drop, mul-le-mul_right, add-mul, one-mul, zero-add, suc-add}
 use Rattle.std.proofs.Math.ListN.{get_or-map}
 use Rattle.std.proofs.Math.Seq.{take-nil}
 use Rattle.std.proofs.lemmas.Slice.{take-put_mid_below}
@@ -14,15 +14,14 @@ use Rattle.terms.specs.Outcome.{Outcome}
 use Rattle.sides.specs.Fine.{side_tests}
 use Rattle.terms.specs.Load.{grade}
 use Rattle.terms.specs.Flat.{left_at, right_at}
-use Rattle.texts.specs.Number.{number_of, piece, closed, cap}
+use Rattle.texts.specs.Number.{number_of, cap}
 use Rattle.lines.specs.declared.Word.{Word}
-use Rattle.lines.specs.declared.Word.TheVariants as words
-use Rattle.lines.specs.Fields.{same, number_of_word, number_of_which, which_word, word_of}
-use Rattle.shapes.specs.Split.{Got, fine, wrong, split, first, rest, is_word, shaped, read_line, cost_of}
+use Rattle.lines.specs.Fields.{same, number_of_word}
+use Rattle.shapes.specs.Split.{Got, fine, wrong, first, rest, shaped, read_line, cost_of}
 use Rattle.shapes.specs.Rows.{code_of, numbers_got, step_got}
-use Rattle.shapes.proofs.Turns.{lined_none}
+use Rattle.shapes.proofs.Unnamed.{none_read}
 use Rattle.records.specs.Lines.{Pieces, after, ask, all, within, kit_of, kit_line, cost_fine, cost_line, counts_line, sides_of}
-use Rattle.records.specs.Steps.{Stored, Coded, Recorded, sides_step}
+use Rattle.records.specs.Steps.{Stored, Coded, sides_step}
 use Rattle.records.proofs.Codes.{shut, plain_line, code, cost_codes, kept, not_read, out_of_range, in_range, plain}
 
 -- ## A line that is not read
@@ -132,36 +131,10 @@ had_room line w width used room ps r e = go (read_line line (shaped w number_of 
     go (fine x) false h e = cc
     go (wrong reason at) t h e = cc
 
--- which number is no word's, by those that are
-pub no_word : (number : ℕ) → (number ≡ 0 → ⊥) → (number ≡ 1 → ⊥) → (number ≡ 2 → ⊥) → (number ≡ 3 → ⊥) → (number ≡ 4 → ⊥) → (word : Word) → number_of_word word ≡ number → ⊥
-no_word number a b c d e words.Kit h = a (sym h)
-no_word number a b c d e words.Size h = b (sym h)
-no_word number a b c d e words.Cost h = c (sym h)
-no_word number a b c d e words.Swap h = d (sym h)
-no_word number a b c d e words.Load h = e (sym h)
-
 -- a line of counts whose word is none
-module _ (line w width used room at : ℕ) (text : List ℕ) (unnamed : (word : Word) → number_of_word word ≡ w → ⊥) where
-  not_word : (o : Option Word) → is_word w (number_of_which o) ≡ false
-  not_word None = refl
-  not_word (Some word) = ne_eqb (number_of_word word) w (unnamed word)
-
-  not_begun : (closed : Bool) (o : Option Word) → true ≡ not (closed && is_word w (number_of_which o))
-  not_begun true o = rw (not_word o)
-  not_begun false o = refl
-
-  not_read_of : (ps : Pieces) → read_line line (shaped w number_of width) ps ≡ wrong BadLine line
-  unfolding word_of
-  not_read_of ps = rw (not_word (which_word (first (split 9 (first ps))))) (lined_none line (rest ps))
-
-  pub no_line_of : (table : List ℕ) → Recorded line w width used at text table (counts_line line w width used room (split 10 (drop at text))) (Ok None) table
-  unfolding word_of
-  no_line_of table =
-      record {
-        other = not_begun (closed (drop at text)) (which_word (piece (drop at text)));
-        is = ap (λ (g : Got (List ℕ × Pieces)). after g (λ r. ask (ltb used room) Length line (ask (all (within 0 65535) r.0) BigCount line (fine r)))) (not_read_of (split 10 (drop at text)));
-        kept = refl;
-      }
+pub none_counted : (line w width used room : ℕ) → ((word : Word) → number_of_word word ≡ w → ⊥) → (ps : Pieces) → counts_line line w width used room ps ≡ wrong BadLine line
+none_counted line w width used room unnamed ps =
+    ap (λ (g : Got (List ℕ × Pieces)). after g (λ r. ask (ltb used room) Length line (ask (all (within 0 65535) r.0) BigCount line (fine r)))) (none_read line w width number_of unnamed ps)
 
 -- a part of a table from a place on, written anew
 module _ (at : ℕ) (table part : List ℕ) (h : at ≤ length table) where

@@ -2,7 +2,7 @@
 // Each function takes a place of the text and hands the next one back, as the definitions go: `split 10 (drop at text)`.
 #![tactic(auto)]
 
-ghost use Rattle.std.specs.Prelude.{ℕ, List, Bool, MatchOption, ◌≡◌, ◌+◌, ◌-◌, ◌*◌, ◌^◌, ◌≤◌, ◌<◌, length, take, drop};
+ghost use Rattle.std.specs.Prelude.{ℕ, List, Bool, ◌≡◌, ◌+◌, ◌-◌, ◌*◌, ◌^◌, ◌≤◌, ◌<◌, length, take, drop};
 ghost use Rattle.terms.specs.Limits.{KindsFine, most_kinds, most_size, most_cost, most_swaps, most_count};
 ghost use Rattle.texts.specs.Number.{cap};
 ghost use Rattle.lines.specs.Fields.{number_of_word};
@@ -32,7 +32,7 @@ fn due_line(
 ) -> Result<usize, Refused>
     ensures { read_line line (shaped (number_of_word word) (code_of signed) (length row.old)) (split 10 (drop at text.now)) ≡ numbers_got result row.new text.now }
 {
-    shapes::line_at(text, at, line, word, signed, row)?.ok_or(Refusal::BadLine.at(line))
+    shapes::word_line_at(text, at, line, word, signed, row)?.ok_or(Refusal::BadLine.at(line))
 }
 
 // The kit that the numbers of line 1 stand for, if both are within their limits.
@@ -174,7 +174,7 @@ pub fn word_line(
 {
     let mut row = [0; 2 * Kit::KINDS];
     let row = &mut row[..width];
-    let Some(next) = shapes::line_at(text, at, line, word, false, row)? else {
+    let Some(next) = shapes::word_line_at(text, at, line, word, false, row)? else {
         return Ok(None);
     };
     if room <= used {
@@ -186,22 +186,8 @@ pub fn word_line(
     Ok(Some(next))
 }
 
-// The word of a number.
-#[tactic(auto, using(crate::proofs::Answers::no_word))]
-fn word_of(number: u8) -> Option<Word>
-    ensures { MatchOption result ((word : _) → number_of_word word ≡ number → ⊥) (λ word. number_of_word word ≡ number) }
-{
-    match number {
-        0 => Some(Word::Kit),
-        1 => Some(Word::Size),
-        2 => Some(Word::Cost),
-        3 => Some(Word::Swap),
-        4 => Some(Word::Load),
-        _ => None,
-    }
-}
-
 // The same by the number of a word: where it is no word's, each line has another word.
+#[tactic(auto, using(crate::proofs::Answers::none_counted, shapes::proofs::Unnamed::none_begun))]
 pub fn counts_line(
     text: &[u8],
     at: usize,
@@ -215,7 +201,7 @@ pub fn counts_line(
     requires { (width ≤ 24) × (used ≤ room) × (room * width ≤ length table.old) }
     ensures { Recorded line word width used at text.now table.old (counts_line line word width used room (split 10 (drop at text.now))) result table.new }
 {
-    match word_of(word) {
+    match Word::of(word) {
         Some(word) => word_line(text, at, line, word, width, used, room, table),
         None => Ok(None),
     }

@@ -1,3 +1,4 @@
 pub mod Parted
 pub mod Turns
 pub mod Words
+pub mod Unnamed

@@ -73,7 +73,7 @@ fn numbers_at(
 
 // A whole line with the word and as many numbers as `row` has places: the place of the next line, or None where another word stands.
 // `signed` is a yes or no, as the definition `code_of` has it: an enum of two cases would say no more.
-pub fn line_at(
+pub fn word_line_at(
     text: &[u8],
     at: usize,
     line: usize,
@@ -89,4 +89,23 @@ pub fn line_at(
     };
     let next = numbers_at(text, place, line, signed, row)?;
     Ok(Some(next))
+}
+
+// The same by the number of a word: where it is no word's, each line has another word.
+#[tactic(auto, using(crate::proofs::Unnamed::none_begun, crate::proofs::Unnamed::none_read))]
+pub fn line_at(
+    text: &[u8],
+    at: usize,
+    line: usize,
+    word: u8,
+    signed: bool,
+    row: &mut [u32],
+) -> Result<Option<usize>, Refused>
+    ensures { (is_other result ≡ not (begun_in word (drop at text.now)))
+        × (read_line line (shaped word (code_of signed) (length row.old)) (split 10 (drop at text.now)) ≡ step_got line result row.new text.now) }
+{
+    match Word::of(word) {
+        Some(word) => word_line_at(text, at, line, word, signed, row),
+        None => Ok(None),
+    }
 }

@@ -57,6 +57,6 @@ returns c =
     let long = codes.part_of_24 a.width c.requires.0 in
     record {
       other = e.0;
-      is = answers.counts_fine a.line (number_of_word a.word) a.width a.used a.room _ long (split 10 (drop a.at a.text.now)) _ _ e.1 c.if-room-used.false c.stored.result c.stored.new.table (c.stored.ensures (λ v. v) 0 65535 (λ v r l p. p)) c.if-not-stored.false (take (a.used * a.width) a.table.now) _ (c.line_at.auto.row ∙ long) (let k = answers.part_long (a.used * a.width) a.table.now c.stored.new.table (omega arith) c.stored.auto.table in omega arith) (length-take-le (a.used * a.width) a.table.now (omega arith)) (answers.written_after (a.used * a.width) a.table.now c.stored.new.table (omega arith) c.stored.auto.table);
+      is = answers.counts_fine a.line (number_of_word a.word) a.width a.used a.room _ long (split 10 (drop a.at a.text.now)) _ _ e.1 c.if-room-used.false c.stored.result c.stored.new.table (c.stored.ensures (λ v. v) 0 65535 (λ v r l p. p)) c.if-not-stored.false (take (a.used * a.width) a.table.now) _ (c.word_line_at.auto.row ∙ long) (let k = answers.part_long (a.used * a.width) a.table.now c.stored.new.table (omega arith) c.stored.auto.table in omega arith) (length-take-le (a.used * a.width) a.table.now (omega arith)) (answers.written_after (a.used * a.width) a.table.now c.stored.new.table (omega arith) c.stored.auto.table);
       kept = answers.written_kept (a.used * a.width) a.table.now c.stored.new.table (omega arith);
     }

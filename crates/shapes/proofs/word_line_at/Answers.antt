@@ -1,6 +1,6 @@
 use Rattle.std.proofs.Common.{rules, ◌≡◌, not, length, ap, sym, ◌∙◌, Err}
 use Rattle.shapes.proofs.Words as words
-use Rattle.shapes.proofs.line_at.Goals as goal
+use Rattle.shapes.proofs.word_line_at.Goals as goal
 
 pub returns-in_default : goal.returns-in_default
 returns-in_default c = let a = c.args in words.word_miss a.line a.signed _ (length a.row.now) a.text.now a.at c.in_default.ensures
