@@ -1,5 +1,5 @@
 -- Which word a field is, by its length and its bytes; and what number it is, with a minus or without. Assumes nothing.
-use Rattle.std.proofs.Common.{◌≡◌, ℕ, zero, suc, ◌+◌, min, ◌≤◌, ◌<◌, List, [], ◌∷◌, Bool, true, false, cond, eqb, length, get_or, take, drop, refl, ap, sym, ◌∙◌, add-one, drop-cons, drop_of_length-le, eqb-true, ne_eqb, Option, Some, None, option_map, arith}
+use Rattle.std.proofs.Common.{◌≡◌, ℕ, zero, suc, ◌+◌, min, ◌≤◌, ◌<◌, List, [], ◌∷◌, Bool, true, false, cond, not, ◌&&◌, eqb, length, get_or, take, drop, refl, ap, sym, ◌∙◌, add-one, drop-cons, drop_of_length-le, eqb-true, ne_eqb, Option, Some, None, option_map, arith}
 use Rattle.std.proofs.Math.Option as maybe
 use Rattle.texts.specs.declared.Num.{Num}
 use Rattle.std.specs.List.{slice_range}
@@ -10,7 +10,7 @@ use Rattle.lines.specs.declared.Word.TheVariants.{Kit, Size, Cost, Swap, Load}
 use Rattle.lines.specs.declared.Field.{Field}
 use Rattle.lines.specs.declared.Field.TheVariants as field
 use Rattle.lines.specs.declared.Field.TheVariants.{Number}
-use Rattle.lines.specs.Fields.{same, kit_word, size_word, cost_word, swap_word, load_word, which_word, worded, numbered, lessened, signed, word_in, number_in, minus_in}
+use Rattle.lines.specs.Fields.{same, kit_word, size_word, cost_word, swap_word, load_word, which_word, worded, numbered, lessened, signed, word_in, number_in, minus_in, field_is}
 
 -- a field of three bytes, and one of four
 abbrev pub of_three : ℕ → ℕ → ℕ → Option Word
@@ -62,6 +62,50 @@ word_read (a ∷ (b ∷ (c ∷ (d ∷ (e ∷ p))))) = other_read (a ∷ (b ∷ (
 
 pub no_word : (p : List ℕ) → length p ≡ 4 → (get_or p 0 0 ≡ 115 → ⊥) → (get_or p 0 0 ≡ 99 → ⊥) → (get_or p 0 0 ≡ 108 → ⊥) → None ≡ which_word p
 no_word p n s c l = rw (word_read p, n, ne_eqb _ _ s, ne_eqb _ _ c, ne_eqb _ _ l)
+
+-- ## What `field_is` says
+
+-- no letter of the word ends a field
+letters : List ℕ → Bool
+letters [] = true
+letters (w ∷ ws) = not (ends_field w) && letters ws
+
+and_false : (c : Bool) → false ≡ (c && false)
+and_false true = refl
+and_false false = refl
+
+and_both : (p q : Bool) → (p && q) ≡ true → (p ≡ true) × (q ≡ true)
+and_both true q e = (refl, e)
+and_both false q e = (cc, cc)
+
+not_end : (t : Bool) → not t ≡ true → t ≡ false
+not_end true e = sym e
+not_end false e = refl
+
+-- where the word is at its end
+field_is_end : (t : Bool) (b : ℕ) (l : List ℕ) → t ≡ (cond t true (closed l) && same (cond t [] (b ∷ piece l)) [])
+unfolding same
+field_is_end true b l = refl
+field_is_end false b l = and_false (closed l)
+
+-- a byte more of both
+is_cons : (t u : Bool) (b w : ℕ) (l ws : List ℕ) → eqb b w ≡ u → (u ≡ true → t ≡ false) → field_is ws l ≡ (closed l && same (piece l) ws)
+    → cond u (field_is ws l) false ≡ (cond t true (closed l) && same (cond t [] (b ∷ piece l)) (w ∷ ws))
+unfolding same
+is_cons true true b w l ws e n h = absurd (let z : true ≡ false = n refl in let y : ◌≡◌ {A = ℕ} 0 1 = ap (λ (t : Bool). cond t 0 1) z in omega arith)
+is_cons true false b w l ws e n h = refl
+is_cons false true b w l ws e n h = rw e h
+is_cons false false b w l ws e n h = rw e (and_false (closed l))
+
+-- the field ends, and its bytes are the word
+field_is_piece : (w l : List ℕ) → letters w ≡ true → field_is w l ≡ (closed l && same (piece l) w)
+unfolding field_is closed piece letters
+field_is_piece [] [] n = refl
+field_is_piece [] (b ∷ l) n = field_is_end (ends_field b) b l
+field_is_piece (w ∷ ws) [] n = refl
+field_is_piece (w ∷ ws) (b ∷ l) n =
+    let m = and_both (not (ends_field w)) (letters ws) n in
+    is_cons (ends_field b) (eqb b w) b w l ws refl (λ u. ap ends_field (eqb-true b w u) ∙ not_end (ends_field w) m.0) (field_is_piece ws l m.1)
 
 -- ## A word by the first five bytes of what stands there
 

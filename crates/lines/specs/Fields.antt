@@ -2,7 +2,7 @@
 use Rattle.std.specs.Prelude.{ℕ, ◌+◌, min, List, [], ◌∷◌, Bool, true, false, cond, eqb, length, drop, Some, None}
 use Rattle.std.specs.Prelude as std
 use Rattle.std.proofs.Math.Option.{Option, none, some}
-use Rattle.texts.specs.Number.{number_of, piece, closed, cap}
+use Rattle.texts.specs.Number.{number_of, ends_field, piece, closed, cap}
 use Rattle.lines.specs.declared.Word.{Word}
 use Rattle.lines.specs.declared.Word.TheVariants.{Kit, Size, Cost, Swap, Load}
 use Rattle.lines.specs.declared.Field.{Field}
@@ -93,3 +93,12 @@ field_in (b ∷ l) at = cond (eqb b 9) (number_in l (at + 1)) (cond (eqb b 10) (
 -- what stands at a place of a text
 abbrev pub field_at : List ℕ → ℕ → std.Option Field
 field_at s at = field_in (drop at s) at
+
+-- ## A word and a text, byte by byte
+
+-- the first field is the word
+unfoldable pub field_is : List ℕ → List ℕ → Bool
+field_is [] [] = false
+field_is [] (b ∷ l) = ends_field b
+field_is (w ∷ ws) [] = false
+field_is (w ∷ ws) (b ∷ l) = cond (eqb b w) (field_is ws l) false

@@ -1,9 +1,14 @@
-use Rattle.std.proofs.Common.{◌≡◌, ◌+◌, ◌∙◌, sym, rules, arith}
+use Rattle.std.proofs.Common.{ℕ, List, length, ◌≡◌, ◌+◌, ◌*◌, ◌<◌, ◌≤◌, ◌∙◌, sym, rules, arith, mul-le-mul_right}
+use native.Mathlib.Nat.{suc-mul}
 use Rattle.std.specs.Iterator.Adapters.{enumerate_count}
 use Rattle.report.specs.Report.{LineBy, load_at}
 use Rattle.report.proofs.Parts.{first_load, later_loads, in_count, at_end}
 use Rattle.report.proofs.Writing.{written_none, written_next, written_of}
 use Rattle.report.proofs.load_lines.Goals as goal
+
+-- load i lies within the buffer, whose length is as lent
+lies : (n count i : ℕ) (lent now : List ℕ) → i < count → count * n ≤ length lent → length now ≡ length lent → i * n + n ≤ length now
+lies n count i lent now l h e = omega (arith, e, h, mul-le-mul_right n l, suc-mul i n)
 
 pub loop-i-init : goal.loop-i-init
 loop-i-init g c =

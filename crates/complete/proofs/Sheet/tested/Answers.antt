@@ -4,7 +4,7 @@ use Rattle.terms.specs.declared.Refused.{Refused}
 use Rattle.terms.specs.Limits.{All, KindsFine, BoundFine, SizeFine, CostFine}
 use Rattle.terms.specs.Flat.{swap_at, rows_lent}
 use Rattle.terms.specs.Outcome.{in_turn, Outcome}
-use Rattle.laws.specs.Outcome.{Stopped, ends, outcome_map, hold_turns, turns_stop}
+use Rattle.laws.specs.Outcome.{AllHold, Stopped, ends, outcome_map, hold_turns, turns_stop}
 use Rattle.sides.specs.Fine.{Unequal, Even, LowestBad, side_tests}
 use Rattle.complete.specs.Call.{Lengths, swap_tests, input_tests}
 use Rattle.complete.proofs.Sheet.tested.Goals as goal
@@ -28,12 +28,16 @@ module _ (n bound : ℕ) (sizes : List ℕ) (costs : List ℤ) (swaps rules : Li
   from_swaps : Early → (o : Answer) → Outcome IsDone (in_turn (rows_lent n swaps) (swap_tests n sizes swaps rules)) o → Outcome IsDone (input_tests n bound sizes costs swaps rules) o
   from_swaps e o rest = inr (e.0, inr (e.1, inr (e.2, inr (e.3, inr (e.4, rest)))))
 
-  -- and so is that of the lowest bad swap
-  at_swap : Early → (bad : ℕ) → LowestBad n sizes swaps (rows_lent n swaps) bad → bad < rows_lent n swaps → (o : Answer) → Stopped (swap_tests n sizes swaps rules bad) o → Outcome IsDone (input_tests n bound sizes costs swaps rules) o
-  at_swap e bad low l o s =
+  -- and so is that of the first bad swap
+  from_bad : Early → (bad : ℕ) → bad < rows_lent n swaps → ((i : ℕ) → i < bad → AllHold (swap_tests {A = Unit {0}} n sizes swaps rules i)) → (o : Answer) → Stopped (swap_tests n sizes swaps rules bad) o → Outcome IsDone (input_tests n bound sizes costs swaps rules) o
+  from_bad e bad l fine o s =
       let tests = swap_tests {A = Unit {0}} n sizes swaps rules in
       let count = rows_lent n swaps in
-      from_swaps e o (outcome_map (λ p. ⊥) IsDone (in_turn count tests) o (λ x. absurd x) (turns_stop count tests bad o l (λ i m. ((low.fine i m).0, ((low.fine i m).1, tt))) s))
+      from_swaps e o (outcome_map (λ p. ⊥) IsDone (in_turn count tests) o (λ x. absurd x) (turns_stop count tests bad o l fine s))
+
+  -- which the search for the lowest finds
+  at_swap : Early → (bad : ℕ) → LowestBad n sizes swaps (rows_lent n swaps) bad → bad < rows_lent n swaps → (o : Answer) → Stopped (swap_tests n sizes swaps rules bad) o → Outcome IsDone (input_tests n bound sizes costs swaps rules) o
+  at_swap e bad low l = from_bad e bad l (λ i m. ((low.fine i m).0, ((low.fine i m).1, tt)))
 
   -- its tests, by as many kinds as there are sizes and at a place that is its number
   named : (m bad place : ℕ) → m ≡ n → place ≡ bad → (r : Result (Unit {0}) Refused) → Outcome (λ r. r ≡ Ok tt) (side_tests sizes (swap_at m swaps bad) place) r → Outcome (λ r. r ≡ Ok tt) (side_tests sizes (swap_at n swaps bad) bad) r
