@@ -204,7 +204,7 @@ impl<S: StampedSheet> Work<'_, S> {
     }
 }
 
-// Every grade, over swaps that the program holds, in the working table: its length tells whether there was room.
+// Every grade, over the swaps that the program holds: the table has one row more than the room where there is none for them all.
 pub fn grow(
     sizes: &[u16; 12],
     weights: &[u32; 12],
@@ -239,7 +239,7 @@ fn lay(rows: &[Row], flat: &mut [u16])
     }
 }
 
-// Every grade, over what is lent flat: `count` swaps and stamps, and a table of a row more than the room. The number of rows tells of room.
+// Every grade, over what is lent flat: the number of rows, which is one more than the room where there is none for them all.
 pub fn all_grades(
     sizes: &[u16],
     weights: &[u32],
