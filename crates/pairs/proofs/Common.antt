@@ -1,11 +1,11 @@
 -- What the loops over twelve counts keep, and the heads of rows that the program holds.
 -- Assumes nothing.
 use Rattle.std.specs.Prelude.{ℕ, ◌+◌, ◌*◌, ◌≤◌, ◌<◌, ◌≡◌, Bool, true, List, length, get_or, take}
-use Rattle.std.proofs.Common.{ap, ap₂, sym, subst, ◌∙◌, arith, length-take}
-use Rattle.std.proofs.lemmas.List.{get_or-take, length-map}
+use Rattle.std.proofs.Common.{ap, ap₂, sym, subst, ◌∙◌, arith, length-take, map}
+use Rattle.std.proofs.lemmas.List.{get_or-take, get_or-map, length-map}
 use Rattle.terms.specs.Load.{Fits, grade}
 use Rattle.laws.specs.Load.{UpTo, join}
-use Rattle.rack.specs.Rows.{as_row, as_rows, head_at}
+use Rattle.rack.specs.Rows.{as_row, as_rows, blank, head_at}
 use Rattle.rack.specs.declared.Row.{Row as Held}
 use Rattle.rack.proofs.Held.{held_at}
 use Rattle.terms.specs.Table.{Row}
@@ -27,6 +27,32 @@ pub record Covering (ps xs ys p j : List ℕ) (ok : Bool) : Type 0 where
   pub right : length ys ≡ length ps
   pub onward : ok ≡ true → Fits ps (join xs ys) → Fits p j
   pub back : Fits p j → (ok ≡ true) × Fits ps (join xs ys)
+
+-- ---- the rows of a table, each read as a row, the last of the first n + 1 and those below it
+
+module _ {A : Type 0} (read : A → Row) (T : List A) (n : ℕ) where
+  last_read : (last : A) → last ≡ get_or T n last → n + 1 ≤ length (map read T) → (read last).head ≡ head_at (map read T) n
+  last_read last is l =
+      ap (λ (a : A). (read a).head) is
+      ∙ ap (λ (a : Row). a.head) (sym (get_or-map read T n last blank (omega (arith, l, length-map T read))))
+
+  module _ (l : n + 1 ≤ length (map read T)) (m i : ℕ) (low : A) (is : low ≡ get_or (take m T) i low) (f : m ≤ n) (h : i < length (take m T)) where
+    low_read : (read low).head ≡ head_at (map read T) i
+    low_read =
+        ap (λ (a : A). (read a).head) (is ∙ get_or-take m T i low (omega (arith, h, length-take m T)))
+        ∙ ap (λ (a : Row). a.head) (sym (get_or-map read T i low blank (omega (arith, h, length-take m T))))
+
+    pub common_read : (last : A) → last ≡ get_or T n last → join (read low).head (read last).head ≡ common (map read T) i n
+    common_read last e = ap₂ join low_read (last_read last e l)
+
+-- what is read of them is small
+module _ {A : Type 0} (read : A → Row) (T : List A) (n : ℕ) (l : n + 1 ≤ length (map read T)) (small : (r : ℕ) → r < n + 1 → UpTo 1000 (head_at (map read T) r)) where
+  pub last_small_read : (a : A) (x : List ℕ) → a ≡ get_or T n a → x ≡ (read a).head → UpTo 1000 x
+  last_small_read a x is e = subst (UpTo 1000) (sym (e ∙ last_read read T n a is l)) (small n (omega arith))
+
+  pub low_small_read : (m i : ℕ) → m ≤ n → i < length (take m T) → (a : A) (x : List ℕ) → a ≡ get_or (take m T) i a → x ≡ (read a).head → UpTo 1000 x
+  low_small_read m i f h a x is e =
+      subst (UpTo 1000) (sym (e ∙ low_read read T n l m i a is f h)) (small i (omega (arith, f, h, length-take m T)))
 
 -- ---- the rows that the program holds, the last of the first n + 1 and those below it
 

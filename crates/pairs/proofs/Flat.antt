@@ -1,30 +1,35 @@
--- Rows held of a flat table, and pairs listed in two flat lists.
+-- The rows of a flat table, and the pairs listed in two flat lists.
 -- Assumes nothing.
-use Rattle.std.specs.Prelude.{ℕ, ◌+◌, ◌*◌, ◌<◌, ◌≡◌, List, [], ◌∷◌, ◌++◌, length, set}
+use Rattle.std.specs.Simd.{first_chunks}
+use Rattle.std.specs.Prelude.{ℕ, zero, suc, ◌≤◌, map, take, drop, ◌+◌, ◌*◌, ◌<◌, ◌≡◌, List, [], ◌∷◌, ◌++◌, length, set}
 use Rattle.std.proofs.Common.{ap, ap₂, sym, refl, ◌∙◌, arith}
-use Rattle.std.proofs.lemmas.List.{map-append, length-map, get_or-set_same, get_or-set_other}
+use Rattle.std.proofs.lemmas.List.{take-take, drop-take, drop-drop, get_or-set_same, get_or-set_other}
 use Rattle.std.proofs.lemmas.Nat.{div-mul-add, mod-mul-add}
-use Rattle.terms.specs.Flat.{left_at, right_at, row_at, table_of}
+use Rattle.terms.specs.Flat.{left_at, row_at, table_of, numbered}
 use Rattle.terms.specs.Table.{Row}
 use Rattle.laws.specs.Numbered.{numbered_long, numbered_more, numbered_same, item_at}
-use Rattle.rack.specs.Rows.{as_row, as_rows, blank, head_at}
-use Rattle.rack.specs.declared.Row.{Row as Held}
+use Rattle.rack.specs.Rows.{blank, head_at}
 use Rattle.pairs.specs.declared.Pair.{Pair}
 use Rattle.pairs.specs.Pairs.{PairList}
-use Rattle.pairs.specs.Flat.{pair_at, pairs_of}
+use Rattle.pairs.specs.Flat.{halves, pair_at, pairs_of}
 use Rattle.pairs.proofs.Laws.{pair_list_table}
 
--- ---- rows held
+-- ---- the rows of a flat table, 24 counts each
 
-module _ (flat : List ℕ) (r : ℕ) (held : List Held) (so : as_rows held ≡ table_of 12 flat r) where
-  pub held_long : length held ≡ r
-  held_long = sym (length-map held as_row) ∙ ap (λ (T : List Row). length T) so ∙ numbered_long (row_at 12 flat) 0 r
+half : (l : List ℕ) (at : ℕ) → drop 12 (take 24 (drop at l)) ≡ take 12 (drop (at + 12) l)
+half l at = drop-take 12 12 (drop at l) ∙ ap (take 12) (drop-drop 12 at l)
 
-  pub held_more : (row : Held) → row.head ≡ left_at 12 flat r → row.tail ≡ right_at 12 flat r → as_rows (held ++ row ∷ []) ≡ table_of 12 flat (r + 1)
-  held_more row h t =
-      map-append as_row held (row ∷ [])
-      ∙ ap₂ (λ (T : List Row) (a : Row). T ++ a ∷ []) so (ap₂ (λ (x y : List ℕ). record { head = x; tail = y }) h t)
-      ∙ sym (numbered_more (row_at 12 flat) r)
+rows_from : (flat : List ℕ) (r k m : ℕ) → k ≤ m → map halves (take k (first_chunks 24 m (drop (r * 24) flat))) ≡ numbered (row_at 12 flat) r k
+rows_from flat r zero m l = refl
+rows_from flat r (suc k) zero l = absurd (omega arith)
+rows_from flat r (suc k) (suc m) l =
+    let on : r * 24 + 24 ≡ suc r * 24 = omega arith in
+    ap₂ ◌∷◌
+    (ap₂ (λ (x y : List ℕ). record { head = x; tail = y }) (take-take 12 24 (drop (r * 24) flat) (omega arith)) (half flat (r * 24)))
+    (ap (λ (x : List ℕ). map halves (take k (first_chunks 24 m x))) (drop-drop 24 (r * 24) flat ∙ ap (λ (i : ℕ). drop i flat) on) ∙ rows_from flat (suc r) k m (omega arith))
+
+pub rows_there : (flat : List ℕ) (k m : ℕ) → k ≤ m → map halves (take k (first_chunks 24 m flat)) ≡ table_of 12 flat k
+rows_there flat = rows_from flat 0
 
 -- ---- the heads of a flat table
 

@@ -1,8 +1,13 @@
 -- The list of pairs where it lies flat: `due` has the grades, `mates` the rows, and the working table is flat too.
-use Rattle.std.specs.Prelude.{ℕ, ◌*◌, ◌/◌, ◌%◌, ◌≤◌, List, length, get_or}
+use Rattle.std.specs.Prelude.{ℕ, ◌*◌, ◌/◌, ◌%◌, ◌≤◌, List, length, get_or, take, drop}
 use Rattle.terms.specs.Flat.{numbered, table_of}
+use Rattle.terms.specs.Table.{Row}
 use Rattle.pairs.specs.declared.Pair.{Pair}
 use Rattle.pairs.specs.Pairs.{PairList, Enterable}
+
+-- 24 counts as a row
+abbrev pub halves : List ℕ → Row
+halves counts = record { head = take 12 counts; tail = drop 12 counts }
 
 -- the pair at place k: `mates` has 256 times the first row, and the second
 abbrev pub pair_at : List ℕ → List ℕ → ℕ → Pair

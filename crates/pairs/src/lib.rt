@@ -1,19 +1,20 @@
 // The list of pairs: which pairs of rows of the working table are to be joined, and at which grade.
 #![tactic(auto)]
 
-ghost use Rattle.std.specs.Prelude.{◌≡◌, ℕ, ◌+◌, ◌*◌, ◌<◌, ◌≤◌, List, [], ◌∷◌, ◌++◌, length, MatchOption, Contains};
+ghost use Rattle.std.specs.Prelude.{◌≡◌, ℕ, ◌+◌, ◌*◌, ◌<◌, ◌≤◌, List, [], ◌∷◌, ◌++◌, length, take, map, not, MatchOption, Contains};
 ghost use Rattle.std.specs.Iterator.{IsFinite, Drains};
 ghost use Rattle.terms.specs.Decides.{Decides};
 ghost use Rattle.terms.specs.Flat.{table_of};
 ghost use Rattle.terms.specs.Load.{Fits, grade};
+ghost use Rattle.terms.specs.Table.{Row as TableRow};
 ghost use Rattle.laws.specs.Load.{join, UpTo};
-ghost use Rattle.rack.specs.Rows.{as_rows, head_at};
+ghost use Rattle.rack.specs.Rows.{as_row, as_rows, head_at};
 ghost use Rattle.pairs.specs.Pairs.{common, PairList, NextAbove, Enterable};
-ghost use Rattle.pairs.specs.Flat.{pairs_of, FlatPairList, FlatEnterable};
+ghost use Rattle.pairs.specs.Flat.{halves, pairs_of, FlatPairList, FlatEnterable};
 ghost use Rattle.pairs.specs.Candidates.{AllBelow, Picked, Sifted, Taken};
 
 use arrayvec::ArrayVec;
-use rack::{Row, Table};
+use rack::Row;
 
 // A pair of rows of the working table that is to be joined, and the grade at which it is due.
 #[derive(Clone, Copy, Default)]
@@ -31,6 +32,40 @@ pub const PAIRS: usize = 32_640;
 struct Candidate {
     row: u8,
     grade: u16,
+}
+
+// A row of a working table, wherever its counts lie. A trait of our own: `AsRef` tells a generic walk nothing of the row.
+trait Rowed {
+    ghost read_as: { Self → TableRow };
+
+    fn head(&self) -> &[u16; 12]
+        ensures { result.now ≡ (read_as self.now).head };
+}
+
+impl Rowed for Row {
+    ghost read_as = { as_row };
+
+    fn head(&self) -> &[u16; 12] {
+        &self.head
+    }
+}
+
+// A row of a flat table: 12 counts of the head, and 12 of the tail.
+impl Rowed for [u16; 24] {
+    ghost read_as = { halves };
+
+    fn head(&self) -> &[u16; 12] {
+        first_twelve(self)
+    }
+}
+
+// The first twelve counts, where they lie.
+fn first_twelve(counts: &[u16]) -> &[u16; 12]
+    requires { 12 ≤ length counts.now }
+    ensures { result.now ≡ take 12 counts.now }
+{
+    let (twelves, _) = counts.as_chunks::<12>();
+    &twelves[0]
 }
 
 // The grade of the least load that holds both, which is never written down: to call loads::grade_of it would be.
@@ -58,23 +93,28 @@ pub fn covers(p: &[u16; 12], a: &[u16; 12], b: &[u16; 12]) -> bool
 }
 
 // Whether row i lies below row j, and row p is a pivot of the two: its head fits in the least load that holds their heads.
-fn has_pivot(table: &[Row], p: usize, i: usize, j: usize) -> bool
+fn has_pivot<R: Rowed>(table: &[R], p: usize, i: usize, j: usize) -> bool
     requires { (p ≤ j) × (j < length table.now) }
-    ensures tested { Decides ((i < j) × Fits (head_at (as_rows table.now) p) (common (as_rows table.now) i j)) result }
-    ensures own { i < j → Fits (head_at (as_rows table.now) p) (common (as_rows table.now) p j) }
+    ensures tested { Decides ((i < j) × Fits (head_at (map R.read_as table.now) p) (common (map R.read_as table.now) i j)) result }
+    ensures own { i < j → Fits (head_at (map R.read_as table.now) p) (common (map R.read_as table.now) p j) }
 {
-    i < j && covers(&table[p].head, &table[i].head, &table[j].head)
+    i < j && covers(table[p].head(), table[i].head(), table[j].head())
 }
 
 // The rows below j whose least load with row j is within the bound, with the grades. The casts lose nothing: a row number is below 256,
 // and a grade at most the bound. Sizes, bound and table go side by side: a struct of them would be made for one call.
-fn candidates(sizes: &[u16; 12], bound: u32, table: &[Row], j: usize) -> ArrayVec<Candidate, 256>
-    requires { Enterable bound sizes.now (as_rows table.now) (j + 1) }
-    ensures { Picked bound sizes.now (as_rows table.now) j j result.items }
+fn candidates<R: Rowed>(
+    sizes: &[u16; 12],
+    bound: u32,
+    table: &[R],
+    j: usize,
+) -> ArrayVec<Candidate, 256>
+    requires { Enterable bound sizes.now (map R.read_as table.now) (j + 1) }
+    ensures { Picked bound sizes.now (map R.read_as table.now) j j result.items }
 {
     let mut picked = ArrayVec::new();
     for (i, row) in table[..j].iter().enumerate() {
-        let grade = common_grade(sizes, &row.head, &table[j].head);
+        let grade = common_grade(sizes, row.head(), table[j].head());
         if grade <= bound {
             picked.push(Candidate {
                 row: i as u8,
@@ -92,18 +132,35 @@ fn least(candidates: &[Candidate]) -> Option<Candidate>
     candidates.iter().min_by_key(|a| a.grade).copied()
 }
 
-// Drops the candidates for which row p is a pivot.
-fn sift(table: &[Row], p: usize, j: usize, candidates: &mut ArrayVec<Candidate, 256>)
-    requires { (p < j) × (j < length table.now) }
-    ensures { Sifted (as_rows table.now) p j candidates.old.items candidates.new.items }
+// Whether a candidate stays: row p is no pivot of its row and row j.
+fn stays<R: Rowed>(table: &[R], p: usize, j: usize, a: &Candidate) -> bool
+    requires { (p ≤ j) × (j < length table.now) }
+    ensures tested { Decides ((a.now.row < j) × Fits (head_at (map R.read_as table.now) p) (common (map R.read_as table.now) a.now.row j)) (not result) }
+    ensures own { a.now.row < j → Fits (head_at (map R.read_as table.now) p) (common (map R.read_as table.now) p j) }
 {
-    candidates.retain(|a| !has_pivot(table, p, usize::from(a.row), j));
+    !has_pivot(table, p, usize::from(a.row), j)
+}
+
+// Drops the candidates for which row p is a pivot.
+fn sift<R: Rowed>(table: &[R], p: usize, j: usize, candidates: &mut ArrayVec<Candidate, 256>)
+    requires { (p < j) × (j < length table.now) }
+    ensures { Sifted (map R.read_as table.now) p j candidates.old.items candidates.new.items }
+{
+    candidates.retain(
+        |a|
+            requires { (p < j) × (j < length table.now) }
+        { stays(table, p, j, a) },
+    );
 }
 
 // The next pair with row j, which is below 256: a candidate of least grade, by which the candidates are sifted. None where none is left.
-fn next_pair(table: &[Row], j: usize, candidates: &mut ArrayVec<Candidate, 256>) -> Option<Pair>
+fn next_pair<R: Rowed>(
+    table: &[R],
+    j: usize,
+    candidates: &mut ArrayVec<Candidate, 256>,
+) -> Option<Pair>
     requires { (j < 256) × (j < length table.now) × AllBelow j candidates.old.items }
-    ensures { MatchOption result (length candidates.old.items ≡ 0) (λ pair. Taken (as_rows table.now) j candidates.old.items pair candidates.new.items) }
+    ensures { MatchOption result (length candidates.old.items ≡ 0) (λ pair. Taken (map R.read_as table.now) j candidates.old.items pair candidates.new.items) }
 {
     let pivot = least(candidates)?;
     sift(table, usize::from(pivot.row), j, candidates);
@@ -131,30 +188,13 @@ pub fn enter_row(
     }
 }
 
-// Twelve counts that are lent, held by themselves.
-fn twelve(counts: &[u16]) -> [u16; 12]
-    requires { length counts.now ≡ 12 }
-    ensures { result ≡ counts.now }
+// The first rows of a flat table, where they lie.
+fn first_rows(table: &[u16], rows: usize) -> &[[u16; 24]]
+    requires { rows * 24 ≤ length table.now }
+    ensures { map halves result.now ≡ table_of 12 table.now rows }
 {
-    let mut held = [0; 12];
-    held.copy_from_slice(counts);
-    held
-}
-
-// The first rows of a flat table, held as rows of the working table.
-fn hold_rows(table: &[u16], rows: usize) -> Table
-    requires { (rows ≤ 256) × (rows * 24 ≤ length table.now) }
-    ensures { as_rows result.items ≡ table_of 12 table.now rows }
-{
-    let mut held = Table::new();
-    for r in 0..rows {
-        let row = loads::row_of(12, table, r);
-        held.push(Row {
-            head: twelve(row.head),
-            tail: twelve(row.tail),
-        });
-    }
-    held
+    let (whole, _) = table.as_chunks::<24>();
+    &whole[..rows]
 }
 
 // The pair written behind the first `pairs` of two flat lists. Gives the new number of pairs.
@@ -180,10 +220,10 @@ pub fn enter(
     requires { FlatEnterable bound sizes.now table.now (j + 1) × (length due.old ≡ 32640) × (length mates.old ≡ 32640) × FlatPairList bound sizes.now table.now j due.old mates.old pairs }
     ensures { FlatPairList bound sizes.now table.now (j + 1) due.new mates.new result }
 {
-    let rows = hold_rows(table, j + 1);
-    let mut candidates = candidates(&twelve(sizes), bound, &rows, j);
+    let rows = first_rows(table, j + 1);
+    let mut candidates = candidates(first_twelve(sizes), bound, rows, j);
     let mut count = pairs;
-    while let Some(pair) = next_pair(&rows, j, &mut candidates) {
+    while let Some(pair) = next_pair(rows, j, &mut candidates) {
         count = write_pair(pair, due, mates, count);
     }
     count

@@ -3,7 +3,7 @@ use Rattle.pairs.proofs.Entering.{contained}
 use Rattle.pairs.proofs.next_pair.Goals as goal
 
 pub sift-requires : goal.sift-requires
-sift-requires c = (omega (arith, c.from.ensures, c.requires.2 c.in_ok-pivot.pivot (contained c.deref.ensures.0 c.in_ok-pivot.ensures)), c.requires.1)
+sift-requires g c = (omega (arith, c.from.ensures, c.requires.2 c.in_ok-pivot.pivot (contained c.deref.ensures.0 c.in_ok-pivot.ensures)), c.requires.1)
 
 pub returns : goal.returns
-returns c = record { pivot = c.in_ok-pivot.pivot; among = contained c.deref.ensures.0 c.in_ok-pivot.ensures; paired = refl; sifted = rw c.from.ensures at c.sift.ensures }
+returns g c = record { pivot = c.in_ok-pivot.pivot; among = contained c.deref.ensures.0 c.in_ok-pivot.ensures; paired = refl; sifted = rw c.from.ensures at c.sift.ensures }
