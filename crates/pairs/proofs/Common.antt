@@ -1,4 +1,4 @@
--- What the loops over twelve counts keep, and the heads of rows that the program holds.
+-- What the loops over twelve counts keep, and the heads of rows, wherever they lie.
 -- Assumes nothing.
 use Rattle.std.specs.Prelude.{ℕ, ◌+◌, ◌*◌, ◌≤◌, ◌<◌, ◌≡◌, Bool, true, List, length, get_or, take}
 use Rattle.std.proofs.Common.{ap, ap₂, sym, subst, ◌∙◌, arith, length-take, map}

@@ -21,6 +21,6 @@ pairs_of due mates pairs = numbered (pair_at due mates) 0 pairs
 abbrev pub FlatPairList : ℕ → List ℕ → List ℕ → ℕ → List ℕ → List ℕ → ℕ → Type 0
 FlatPairList bound sizes flat n due mates pairs = PairList bound sizes (table_of 12 flat n) n (pairs_of due mates pairs)
 
--- what entering them asks: they lie in the flat table
+-- what entering them asks, and that they lie in the flat table
 abbrev pub FlatEnterable : ℕ → List ℕ → List ℕ → ℕ → Type 0
 FlatEnterable bound sizes flat n = Enterable bound sizes (table_of 12 flat n) n × (n * 24 ≤ length flat)
