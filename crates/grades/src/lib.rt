@@ -108,7 +108,7 @@ fn settle_tails(table: &mut [Row], base: usize)
     ensures { TailsSettled weights (as_rows table.old) base (as_rows table.new) }
 {
     for r in base..table.len() {
-        rack::settle_tail(table, r);
+        rack::settle_row_tail(table, r);
     }
 }
 

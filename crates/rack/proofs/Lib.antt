@@ -5,3 +5,4 @@ pub mod Found
 pub mod Joining
 pub mod Held
 pub mod Sorting
+pub mod Tail

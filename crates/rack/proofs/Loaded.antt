@@ -13,7 +13,7 @@ use Rattle.laws.specs.Numbered.{in_numbered}
 use Rattle.laws.specs.Order.{before_laws}
 use Rattle.laws.specs.Strides.{Walks.stop, Strides}
 use Rattle.laws.specs.Falls.{first_fit_in, Falls, Within, step_falls, stride_falls, settles_within}
-use Rattle.rack.specs.Racked.{costs_of, Sound, Loaded, FlatLoaded}
+use Rattle.rack.specs.Racked.{costs_of, Sound, Loaded, FlatSound, FlatLoaded}
 
 -- the rank of a load in the cost order, with counts up to 1,000
 abbrev pub rank : List ℕ → List ℕ → ℕ
@@ -71,23 +71,24 @@ tail_loaded s a m =
     record { sound = s; long = (s.racked.sided a m).of_tail; within = omega (arith, p.even, p.bounded) }
 
 -- a flat table is sound where each of its rows, by number, is proper
-pub flat_loaded : (weights table : List ℕ) (rows : ℕ) {bound : ℕ} {sizes x : List ℕ} → bound ≤ 1000 → length sizes ≡ 12 → From 1 sizes → length weights ≡ 12 → rows * 24 ≤ length table → ((r : ℕ) → r < rows → Proper bound sizes (costs_of weights) (row_at 12 table r)) → length x ≡ 12 → grade sizes x ≤ bound → FlatLoaded weights table rows x
-flat_loaded weights table rows {bound} {sizes} small sized positive weighed lies proper long within = (
+abbrev pub flat_sound : (weights table : List ℕ) (rows : ℕ) {bound : ℕ} {sizes : List ℕ} → bound ≤ 1000 → length sizes ≡ 12 → From 1 sizes → length weights ≡ 12 → rows * 24 ≤ length table → ((r : ℕ) → r < rows → Proper bound sizes (costs_of weights) (row_at 12 table r)) → FlatSound weights table rows
+flat_sound weights table rows {bound} {sizes} small sized positive weighed lies proper = (
   lies,
   record {
-    sound = record {
-      bound = bound;
-      small = small;
-      sizes = sizes;
-      racked = record {
-        sizes_long = sized;
-        positive = positive;
-        weights_long = weighed;
-        sided = table_sided 12 rows table lies;
-        proper = λ a m. let t = in_numbered (row_at 12 table) rows m in subst (Proper bound sizes (costs_of weights)) (sym t.2) (proper t.0 t.1);
-      };
+    bound = bound;
+    small = small;
+    sizes = sizes;
+    racked = record {
+      sizes_long = sized;
+      positive = positive;
+      weights_long = weighed;
+      sided = table_sided 12 rows table lies;
+      proper = λ a m. let t = in_numbered (row_at 12 table) rows m in subst (Proper bound sizes (costs_of weights)) (sym t.2) (proper t.0 t.1);
     };
-    long = long;
-    within = within;
   },
 )
+
+-- and a load within its bound is loaded on it
+pub flat_loaded : (weights table : List ℕ) (rows : ℕ) {bound : ℕ} {sizes x : List ℕ} → bound ≤ 1000 → length sizes ≡ 12 → From 1 sizes → length weights ≡ 12 → rows * 24 ≤ length table → ((r : ℕ) → r < rows → Proper bound sizes (costs_of weights) (row_at 12 table r)) → length x ≡ 12 → grade sizes x ≤ bound → FlatLoaded weights table rows x
+flat_loaded weights table rows small sized positive weighed lies proper long within =
+    (lies, record { sound = (flat_sound weights table rows small sized positive weighed lies proper).1; long = long; within = within })

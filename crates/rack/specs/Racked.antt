@@ -33,6 +33,10 @@ pub record Loaded (weights : List ℕ) (T : List Row) (x : List ℕ) : Type 0 wh
   pub long : length x ≡ 12
   pub within : grade sound.sizes x ≤ sound.bound
 
+-- the first `rows` rows of a flat table lie in it, and are a sound table
+abbrev pub FlatSound : List ℕ → List ℕ → ℕ → Type 0
+FlatSound weights table rows = (rows * 24 ≤ length table) × Sound weights (table_of 12 table rows)
+
 -- the first `rows` rows of a flat table lie in it, and x is a load within the bound of a sound table of them
 abbrev pub FlatLoaded : List ℕ → List ℕ → ℕ → List ℕ → Type 0
 FlatLoaded weights table rows x = (rows * 24 ≤ length table) × Loaded weights (table_of 12 table rows) x
