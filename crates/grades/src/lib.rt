@@ -176,7 +176,7 @@ impl<S: StampedSheet> Work<'_, S> {
         let rows = table.as_mut_slice();
         settle_tails(rows, base);
         rack::sort_rows(rows, base);
-        pairs::enter_all(self.sizes, self.bound as u32, rows, base, list);
+        pairs::enter_rows(self.sizes, self.bound as u32, rows, base, list);
         Ok(())
     }
 

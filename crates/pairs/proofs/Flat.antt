@@ -1,17 +1,18 @@
--- The rows of a flat table, and the pairs listed in two flat lists.
+-- The rows of a flat table, what entering them asks, and the pairs listed in two flat lists.
 -- Assumes nothing.
 use Rattle.std.specs.Simd.{first_chunks}
 use Rattle.std.specs.Prelude.{ℕ, zero, suc, ◌≤◌, map, take, drop, ◌+◌, ◌*◌, ◌<◌, ◌≡◌, List, [], ◌∷◌, ◌++◌, length, set}
-use Rattle.std.proofs.Common.{ap, ap₂, sym, refl, ◌∙◌, arith}
+use Rattle.std.proofs.Common.{ap, ap₂, sym, subst, refl, ◌∙◌, arith}
 use Rattle.std.proofs.lemmas.List.{take-take, drop-take, drop-drop, get_or-set_same, get_or-set_other}
 use Rattle.std.proofs.lemmas.Nat.{div-mul-add, mod-mul-add}
 use Rattle.terms.specs.Flat.{left_at, row_at, table_of, numbered}
 use Rattle.terms.specs.Table.{Row}
+use Rattle.laws.specs.Load.{UpTo}
 use Rattle.laws.specs.Numbered.{numbered_long, numbered_more, numbered_same, item_at}
 use Rattle.rack.specs.Rows.{blank, head_at}
 use Rattle.pairs.specs.declared.Pair.{Pair}
 use Rattle.pairs.specs.Pairs.{PairList}
-use Rattle.pairs.specs.Flat.{halves, pair_at, pairs_of}
+use Rattle.pairs.specs.Flat.{halves, pair_at, pairs_of, FlatEnterable}
 use Rattle.pairs.proofs.Laws.{pair_list_table}
 
 -- ---- the rows of a flat table, 24 counts each
@@ -40,6 +41,19 @@ head_there flat n r l = ap (λ (a : Row). a.head) (item_at (row_at 12 flat) blan
 pub listed_on : (bound : ℕ) (sizes flat : List ℕ) (n : ℕ) (list : List Pair) → PairList bound sizes (table_of 12 flat n) n list → PairList bound sizes (table_of 12 flat (n + 1)) n list
 listed_on bound sizes flat n =
     pair_list_table (table_of 12 flat n) (table_of 12 flat (n + 1)) n (λ r l. head_there flat n r l ∙ sym (head_there flat (n + 1) r (omega arith))) bound sizes
+
+-- what entering n rows asks holds of the first m
+pub enterable_first : (bound : ℕ) (sizes flat : List ℕ) (n m : ℕ) → m ≤ n → FlatEnterable bound sizes flat n → FlatEnterable bound sizes flat m
+enterable_first bound sizes flat n m l so = (
+  record {
+    small_sizes = so.0.small_sizes;
+    small_heads = λ r h. subst (UpTo 1000) (head_there flat n r (omega arith) ∙ sym (head_there flat m r h)) (so.0.small_heads r (omega arith));
+    rows = omega (arith, numbered_long (row_at 12 flat) 0 m);
+    most = omega (arith, so.0.most);
+    bounded = so.0.bounded;
+  },
+  omega (arith, so.1),
+)
 
 -- ---- pairs listed
 

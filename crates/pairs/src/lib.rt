@@ -230,7 +230,7 @@ pub fn enter(
 }
 
 // Enters the rows from base on. By number: each turn works on the whole table and names the row.
-pub fn enter_all(
+pub fn enter_rows(
     sizes: &[u16; 12],
     bound: u32,
     table: &[Row],
@@ -243,6 +243,27 @@ pub fn enter_all(
     for j in base..table.len() {
         enter_row(sizes, bound, table, j, list);
     }
+}
+
+// Enters the rows of a flat table from base to before `rows`. Gives the new number of pairs.
+pub fn enter_all(
+    sizes: &[u16],
+    bound: u32,
+    table: &[u16],
+    base: usize,
+    rows: usize,
+    due: &mut [u16],
+    mates: &mut [u16],
+    pairs: usize,
+) -> usize
+    requires { FlatEnterable bound sizes.now table.now rows × (base ≤ rows) × (length due.old ≡ 32640) × (length mates.old ≡ 32640) × FlatPairList bound sizes.now table.now base due.old mates.old pairs }
+    ensures { FlatPairList bound sizes.now table.now rows due.new mates.new result }
+{
+    let mut listed = pairs;
+    for j in base..rows {
+        listed = enter(sizes, bound, table, j, due, mates, listed);
+    }
+    listed
 }
 
 // The least of the grades that is above g, or the limit where there is none below it. The limit and no None: `NextAbove` says it so, and

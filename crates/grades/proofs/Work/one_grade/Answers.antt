@@ -33,8 +33,8 @@ settle_tails-requires g c =
     let base = base_is c.args.table.now.items c.len-base.ensures.value in
     rw c.requires.1.0 (tails_asked p.0.0.0 p.0.0.1 p.1.0 p.1.1 c.join_swaps.ensures.done p.0.1 joined c.as_mut_slice-rows.result.now (ap as_rows c.as_mut_slice-rows.ensures.value) base)
 
-pub enter_all-requires : goal.enter_all-requires
-enter_all-requires g c =
+pub enter_rows-requires : goal.enter_rows-requires
+enter_rows-requires g c =
     let p = c.requires.1.1 in
     let w = p.0.0.0 in
     let at = p.0.0.1 in
@@ -63,4 +63,4 @@ returns-clause-done g c =
     let sorted = subst (λ (n : ℕ). SortedFrom n (as_rows c.settle_tails.new.table) (as_rows c.sort_rows.new.table)) base c.sort_rows.ensures in
     let now = length-map c.sort_rows.new.table as_row in
     let back = written c.join_pairs.new.table.items c.sort_rows.new.table (sym now ∙ sorted_all w at some bounded c.join_swaps.ensures.done p.0.1 joined settled sorted ∙ length-map c.join_pairs.new.table.items as_row) in
-    rw back (grade_left w at some bounded c.join_swaps.ensures.done p.0.1 joined settled sorted (rows_in c.join_swaps.new.table.items refl c.in_ok-join_swaps.ensures.room) (rows_in c.join_pairs.new.table.items refl c.in_ok-join_pairs.ensures.room) (rw (← now) at c.enter_all.ensures))
+    rw back (grade_left w at some bounded c.join_swaps.ensures.done p.0.1 joined settled sorted (rows_in c.join_swaps.new.table.items refl c.in_ok-join_swaps.ensures.room) (rows_in c.join_pairs.new.table.items refl c.in_ok-join_pairs.ensures.room) (rw (← now) at c.enter_rows.ensures))
