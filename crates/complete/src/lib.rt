@@ -120,7 +120,8 @@ fn stamp_of(bound: usize, sizes: &[u16; Kit::KINDS], x: &[u16; Kit::KINDS]) -> u
     if grade <= bound { grade as u16 } else { 0 }
 }
 
-// Complete: the number of rows of the finished table, which the rule table then holds; refused for room it is 0, and refused otherwise as it was lent.
+// Complete: the number of rows of the finished table, which the rule table then holds; refused for room it is 0, and refused otherwise as
+// it was lent.
 pub fn complete(
     kit: Kit,
     sizes: &[u16],

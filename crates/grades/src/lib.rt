@@ -53,7 +53,8 @@ impl StampedSheet for &[Stamped] {
 #[derive(Clone, Copy)]
 struct NoRoom;
 
-// What completion works on: the sizes and weights of a kit of 12 kinds with its bound, the swaps, and the number of rows that there is room for.
+// What completion works on: the sizes and weights of a kit of 12 kinds with its bound, the swaps, and the number of rows that there is room
+// for.
 #[derive(Drop)]
 struct Work<'a, S> {
     sizes: &'a [u16; 12],
@@ -76,8 +77,8 @@ fn joined(weights: &[u32; 12], table: &mut Table, mut x: [u16; 12], mut y: [u16;
     }
 }
 
-// What row (head, tail) makes of the least load that holds its head and the head q, in one pass and not by loads::exchange_in. By place: after `iter_mut().zip(..)` the check knows
-// nothing of what was written.
+// What row (head, tail) makes of the least load that holds its head and the head q, in one pass and not by loads::exchange_in. By place:
+// after `iter_mut().zip(..)` the check knows nothing of what was written.
 fn make(head: &[u16; 12], tail: &[u16; 12], q: &[u16; 12]) -> [u16; 12]
     requires { UpTo 65535 (exchange head.now tail.now (join head.now q.now)) }
     ensures { result ≡ exchange head.now tail.now (join head.now q.now) }
@@ -132,7 +133,8 @@ impl<S: StampedSheet> Work<'_, S> {
     }
 
     // The listed pairs that are due at grade g joined, as far as there is room.
-    // A loop of its own beside join_swaps: one for both would take the joining as a closure, and say of any closure what these two say of theirs.
+    // A loop of its own beside join_swaps: one for both would take the joining as a closure, and say of any closure what these two say of
+    // theirs.
     fn join_pairs(&self, list: &[Pair], g: u16, table: &mut Table) -> Result<(), NoRoom>
         requires listed { (sheet : List Swap) × (stamps : List ℕ) × Listing self.now.weights.now sheet stamps g list.now (as_rows table.old.items) }
         requires has_room { length table.old.items ≤ self.now.room }

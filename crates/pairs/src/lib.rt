@@ -80,7 +80,8 @@ pub fn common_grade(sizes: &[u16; 12], a: &[u16; 12], b: &[u16; 12]) -> u32
     sum
 }
 
-// Whether p fits in the least load that holds a and b, which is never written down: to call loads::fits_in it would be. In the least that holds p and b it does.
+// Whether p fits in the least load that holds a and b, which is never written down: to call loads::fits_in it would be. In the least that
+// holds p and b it does.
 pub fn covers(p: &[u16; 12], a: &[u16; 12], b: &[u16; 12]) -> bool
     ensures tested { Decides (Fits p.now (join a.now b.now)) result }
     ensures own { Fits p.now (join p.now b.now) }
