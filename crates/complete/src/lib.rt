@@ -63,13 +63,14 @@ impl Sheet<'_> {
         }
     }
 
-    // The sheet's swaps as swaps of 12 kinds with their stamps, for the sizes of the 12 kinds.
-    fn stamped(&self, sizes: &[u16; Kit::KINDS]) -> ArrayVec<Stamped, { Kit::SWAPS }>
+    // The sheet's swaps as swaps of 12 kinds with their stamps, for the sizes of the 12 kinds. Pushed into a vector that is lent: an
+    // answered one was cleared and copied twice more, 12 KB in all.
+    fn stamp_all(&self, sizes: &[u16; Kit::KINDS], sheet: &mut ArrayVec<Stamped, { Kit::SWAPS }>)
         requires { KindsFine self.now.kit.kinds × BoundFine self.now.kit.bound × Lent self.now.kit.kinds most_swaps self.now.swaps.now }
-        ensures { result.items ≡ numbered (stamped_at self.now.kit.kinds self.now.kit.bound sizes.now self.now.swaps.now) 0 (rows_lent self.now.kit.kinds self.now.swaps.now) }
+        ensures { sheet.new.items ≡ numbered (stamped_at self.now.kit.kinds self.now.kit.bound sizes.now self.now.swaps.now) 0 (rows_lent self.now.kit.kinds self.now.swaps.now) }
     {
         let Kit { kinds: n, bound } = self.kit;
-        let mut sheet = ArrayVec::new();
+        sheet.clear();
         for swap in self.swaps.chunks_exact(2 * n) {
             let (left, right) = swap.split_at(n);
             let left = padding::widen(left);
@@ -77,7 +78,6 @@ impl Sheet<'_> {
             let stamp = stamp_of(bound, sizes, &left);
             sheet.push(Stamped { left, right, stamp });
         }
-        sheet
     }
 
     // The kit completed as one of 12 kinds, by weight, in an empty table: it then has more rows than the room where there is none for them.
@@ -87,7 +87,8 @@ impl Sheet<'_> {
     {
         let sizes = padding::widen_sizes(self.sizes);
         let weights = padding::weigh_all(self.sizes, self.costs);
-        let swaps = self.stamped(&sizes);
+        let mut swaps = ArrayVec::new();
+        self.stamp_all(&sizes, &mut swaps);
         grades::grow(&sizes, &weights, self.kit.bound, &swaps, table, room);
     }
 

@@ -2,7 +2,7 @@ use Rattle.std.proofs.Common.{[], ◌∷◌, ◌++◌, sym, ap, ◌∙◌, arith
 use Rattle.std.specs.Slice.Iter.{chunks_exact_rest}
 use Rattle.grades.specs.declared.Stamped.{Stamped as Held}
 use Rattle.complete.proofs.Chunks.{widened, stamped_same, one_read, all_read}
-use Rattle.complete.proofs.Sheet.stamped.Goals as goal
+use Rattle.complete.proofs.Sheet.stamp_all.Goals as goal
 
 pub loop-swap-preserved : goal.loop-swap-preserved
 loop-swap-preserved c =
