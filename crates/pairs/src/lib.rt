@@ -102,18 +102,20 @@ fn has_pivot<R: Rowed>(table: &[R], p: usize, i: usize, j: usize) -> bool
     i < j && covers(table[p].head(), table[i].head(), table[j].head())
 }
 
-// The rows below j whose least load with row j is within the bound, with the grades. The casts lose nothing: a row number is below 256,
-// and a grade at most the bound. Sizes, bound and table go side by side: a struct of them would be made for one call.
-fn candidates<R: Rowed>(
+// Picks the rows below j whose least load with row j is within the bound, with the grades. The casts lose nothing: a row number is below
+// 256, and a grade at most the bound. Sizes, bound and table go side by side: a struct of them would be made for one call. The vector is
+// lent: an answered one would be copied.
+fn pick<R: Rowed>(
     sizes: &[u16; 12],
     bound: u32,
     table: &[R],
     j: usize,
-) -> ArrayVec<Candidate, 256>
+    picked: &mut ArrayVec<Candidate, 256>,
+)
     requires { Enterable bound sizes.now (map R.read_as table.now) (j + 1) }
-    ensures { Picked bound sizes.now (map R.read_as table.now) j j result.items }
+    ensures { Picked bound sizes.now (map R.read_as table.now) j j picked.new.items }
 {
-    let mut picked = ArrayVec::new();
+    picked.clear();
     for (i, row) in table[..j].iter().enumerate() {
         let grade = common_grade(sizes, row.head(), table[j].head());
         if grade <= bound {
@@ -123,7 +125,6 @@ fn candidates<R: Rowed>(
             });
         }
     }
-    picked
 }
 
 // A candidate of least grade, or none where there is no candidate. The proof needs no more than a candidate.
@@ -183,7 +184,8 @@ pub fn enter_row(
     requires { Enterable bound sizes.now (as_rows table.now) (j + 1) × PairList bound sizes.now (as_rows table.now) j list.old.items }
     ensures { PairList bound sizes.now (as_rows table.now) (j + 1) list.new.items }
 {
-    let mut candidates = candidates(sizes, bound, table, j);
+    let mut candidates = ArrayVec::new();
+    pick(sizes, bound, table, j, &mut candidates);
     while let Some(pair) = next_pair(table, j, &mut candidates) {
         list.push(pair);
     }
@@ -222,7 +224,8 @@ pub fn enter(
     ensures { FlatPairList bound sizes.now table.now (j + 1) due.new mates.new result }
 {
     let rows = first_rows(table, j + 1);
-    let mut candidates = candidates(first_twelve(sizes), bound, rows, j);
+    let mut candidates = ArrayVec::new();
+    pick(first_twelve(sizes), bound, rows, j, &mut candidates);
     let mut count = pairs;
     while let Some(pair) = next_pair(rows, j, &mut candidates) {
         count = write_pair(pair, due, mates, count);

@@ -6,16 +6,16 @@ use Rattle.pairs.proofs.Entering.{entering_start, entering_taken, entering_room}
 use Rattle.pairs.proofs.Flat.{listed_on, pairs_long}
 use Rattle.pairs.proofs.enter.Goals as goal
 
-pub candidates-candidates-requires : goal.candidates-candidates-requires
-candidates-candidates-requires c =
+pub pick-requires : goal.pick-requires
+pick-requires c =
     rw (c.first_rows-rows.ensures, c.first_twelve.ensures, take_all 12 c.args.sizes.now (omega (arith, c.requires.0.0.small_sizes.long))) c.requires.0.0
 
 pub loop-pair-init : goal.loop-pair-init
 loop-pair-init c =
     let a = c.args in
     let listed = pairs_of a.due.now a.mates.now a.pairs in
-    let picked = rw (c.first_rows-rows.ensures, c.first_twelve.ensures, take_all 12 a.sizes.now (omega (arith, c.requires.0.0.small_sizes.long))) at c.candidates-candidates.ensures in
-    entering_start a.bound a.sizes.now (table_of 12 a.table.now (a.j + 1)) a.j c.candidates-candidates.result.items listed (listed_on a.bound a.sizes.now a.table.now a.j listed c.requires.3) picked
+    let picked = rw (c.first_rows-rows.ensures, c.first_twelve.ensures, take_all 12 a.sizes.now (omega (arith, c.requires.0.0.small_sizes.long))) at c.pick.ensures in
+    entering_start a.bound a.sizes.now (table_of 12 a.table.now (a.j + 1)) a.j c.pick.new.picked.items listed (listed_on a.bound a.sizes.now a.table.now a.j listed c.requires.3) picked
 
 pub write_pair-count-requires : goal.write_pair-count-requires
 write_pair-count-requires c =

@@ -3,8 +3,8 @@ use Rattle.terms.specs.Load.{grade}
 use Rattle.pairs.specs.Pairs.{common}
 use Rattle.pairs.proofs.Common.{common_read, last_small_read, low_small_read}
 use Rattle.pairs.proofs.Entering.{picked_past, picked_more}
-use Rattle.pairs.proofs.candidates.Goals as goal
-use Rattle.pairs.proofs.candidates.Goals.{then-grade-bound, else-grade-bound}
+use Rattle.pairs.proofs.pick.Goals as goal
+use Rattle.pairs.proofs.pick.Goals.{then-grade-bound, else-grade-bound}
 
 pub common_grade-grade-requires : goal.common_grade-grade-requires
 common_grade-grade-requires g c =
