@@ -64,7 +64,7 @@ impl Sheet<'_> {
     }
 
     // The sheet's swaps as swaps of 12 kinds with their stamps, for the sizes of the 12 kinds. Pushed into a vector that is lent: an
-    // answered one was cleared and copied twice more, 12 KB in all.
+    // answered one was cleared once more and copied twice, 9.6 KB in all.
     fn stamp_all(&self, sizes: &[u16; Kit::KINDS], sheet: &mut ArrayVec<Stamped, { Kit::SWAPS }>)
         requires { KindsFine self.now.kit.kinds × BoundFine self.now.kit.bound × Lent self.now.kit.kinds most_swaps self.now.swaps.now }
         ensures { sheet.new.items ≡ numbered (stamped_at self.now.kit.kinds self.now.kit.bound sizes.now self.now.swaps.now) 0 (rows_lent self.now.kit.kinds self.now.swaps.now) }

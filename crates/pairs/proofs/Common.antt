@@ -5,9 +5,7 @@ use Rattle.std.proofs.Common.{ap, ap₂, sym, subst, ◌∙◌, arith, length-ta
 use Rattle.std.proofs.lemmas.List.{get_or-take, get_or-map, length-map}
 use Rattle.terms.specs.Load.{Fits, grade}
 use Rattle.laws.specs.Load.{UpTo, join}
-use Rattle.rack.specs.Rows.{as_row, as_rows, blank, head_at}
-use Rattle.rack.specs.declared.Row.{Row as Held}
-use Rattle.rack.proofs.Held.{held_at}
+use Rattle.rack.specs.Rows.{blank, head_at}
 use Rattle.terms.specs.Table.{Row}
 use Rattle.pairs.specs.Pairs.{common}
 
@@ -53,24 +51,3 @@ module _ {A : Type 0} (read : A → Row) (T : List A) (n : ℕ) (l : n + 1 ≤ l
   pub low_small_read : (m i : ℕ) → m ≤ n → i < length (take m T) → (a : A) (x : List ℕ) → a ≡ get_or (take m T) i a → x ≡ (read a).head → UpTo 1000 x
   low_small_read m i f h a x is e =
       subst (UpTo 1000) (sym (e ∙ low_read read T n l m i a is f h)) (small i (omega (arith, f, h, length-take m T)))
-
--- ---- the rows that the program holds, the last of the first n + 1 and those below it
-
-module _ (T : List Held) (n : ℕ) (d : Held) (l : n + 1 ≤ length (as_rows T)) where
-  last_head : (get_or T n d).head ≡ head_at (as_rows T) n
-  last_head = ap (λ (a : Row). a.head) (sym (held_at T n d (omega (arith, l, length-map T as_row))))
-
-  low_head : (m i : ℕ) → m ≤ n → i < length (take m T) → (get_or (take m T) i d).head ≡ head_at (as_rows T) i
-  low_head m i f h =
-      ap (λ (a : Held). a.head) (get_or-take m T i d (omega (arith, h, length-take m T)))
-      ∙ ap (λ (a : Row). a.head) (sym (held_at T i d (omega (arith, h, length-take m T))))
-
-  pub common_held : (m i : ℕ) → m ≤ n → i < length (take m T) → join (get_or (take m T) i d).head (get_or T n d).head ≡ common (as_rows T) i n
-  common_held m i f h = ap₂ join (low_head m i f h) last_head
-
-  module _ (small : (r : ℕ) → r < n + 1 → UpTo 1000 (head_at (as_rows T) r)) where
-    pub last_small : UpTo 1000 (get_or T n d).head
-    last_small = subst (UpTo 1000) (sym last_head) (small n (omega arith))
-
-    pub low_small : (m i : ℕ) → m ≤ n → i < length (take m T) → UpTo 1000 (get_or (take m T) i d).head
-    low_small m i f h = subst (UpTo 1000) (sym (low_head m i f h)) (small i (omega (arith, f, h, length-take m T)))
