@@ -1,7 +1,8 @@
 -- What the loops of one grade keep.
 -- Assumes nothing.
 use Rattle.std.specs.Prelude.{ℕ, ◌+◌, ◌≤◌, ◌<◌, ◌≡◌, List, ◌++◌, length, get_or}
-use Rattle.std.proofs.Common.{sym, ◌∙◌, ⊎_elim, arith}
+use Rattle.std.proofs.Common.{ap, sym, ◌∙◌, ⊎_elim, arith}
+use Rattle.std.proofs.lemmas.List.{get_or-map, length-map}
 use mathlib.Core.List.Memᴰ
 use Rattle.terms.specs.Load.{grade}
 use Rattle.terms.specs.Swaps.{◌∈◌, Swap}
@@ -18,6 +19,8 @@ use Rattle.growth.specs.Turns.{swap_turn, swap_skip}
 use Rattle.growth.specs.End.{racked_of}
 use Rattle.growth.specs.Finish.{stamp_grade, grade_stamp}
 use Rattle.growth.specs.State.{JoinedIn, Within, SwapsDone}
+use Rattle.grades.specs.Stamped.{as_swap, as_sheet, stamps_of}
+use Rattle.grades.specs.declared.Stamped.{Stamped}
 
 module _ {weights : List ℕ} {sheet : List Swap} {stamps : List ℕ} {g : ℕ} where
   -- the grade goes on with the rows that were added
@@ -131,3 +134,21 @@ module _ {weights : List ℕ} {sheet : List Swap} {stamps : List ℕ} {g : ℕ} 
         grows_map weights w.working.setting g w.low w.fresh T (SwapsJoined weights w.working.setting g w.low k) (λ M. length T ≤ room → SwapsJoined weights w.working.setting g w.low (length sheet) M)
         (λ M new h m i n q. h i (omega (arith, s.up_to)) q) (s.grows w);
   }
+
+-- ---- a swap that the program holds
+
+module _ (swaps : List Stamped) (k : ℕ) (d : Stamped) (l : k < length swaps) where
+  pub stamp_held : get_or (stamps_of swaps) k 0 ≡ (get_or swaps k d).stamp
+  stamp_held = get_or-map (λ (a : Stamped). a.stamp) swaps k d 0 l
+
+  swap_held : swap_of (as_sheet swaps) k ≡ as_swap (get_or swaps k d)
+  swap_held = get_or-map as_swap swaps k d _ l
+
+  pub left_held : (swap_of (as_sheet swaps) k).left ≡ (get_or swaps k d).left
+  left_held = ap (λ (a : Swap). a.left) swap_held
+
+  pub right_held : (swap_of (as_sheet swaps) k).right ≡ (get_or swaps k d).right
+  right_held = ap (λ (a : Swap). a.right) swap_held
+
+  pub in_sheet : k < length (as_sheet swaps)
+  in_sheet = omega (arith, length-map swaps as_swap)

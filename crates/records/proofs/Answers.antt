@@ -1,6 +1,6 @@
 -- What the functions over one line answer, from the row that was read. Assumes nothing.
-use Rattle.std.specs.Prelude.{ℕ, zero, suc, ◌+◌, ◌-◌, ◌*◌, min, ◌≤◌, ◌<◌, ◌≡◌, List, [], ◌∷◌, ◌++◌, Bool, true, false, cond, not, ltb, eqb, ℤ, length, get_or, take, drop, Option, Some, Result, Ok, Err, ⊤, refl}
-use Rattle.std.proofs.Common.{ap, sym, ◌∙◌, inl, inr, arith, lt-ltb, le-ltb, ltb-true, eq-eqb, eqb-true, take_at, drop_at, drop_of_length-le, length-drop, length-take-le, append-nil, take-take, drop-drop, mul-le-mul_right, add-mul, one-mul, zero-add, suc-add}
+use Rattle.std.specs.Prelude.{ℕ, zero, suc, ◌+◌, ◌-◌, ◌*◌, min, ◌≤◌, ◌<◌, ◌≡◌, List, [], ◌∷◌, ◌++◌, Bool, true, false, cond, not, ◌&&◌, leb, ltb, eqb, ℤ, length, get_or, take, drop, Option, Some, Result, Ok, Err, ⊤, refl}
+use Rattle.std.proofs.Common.{ap, sym, ◌∙◌, inl, inr, arith, le-leb, leb-true, lt-ltb, le-ltb, ltb-true, eq-eqb, eqb-true, take_at, drop_at, drop_of_length-le, length-drop, length-take-le, append-nil, take-take, drop-drop, mul-le-mul_right, add-mul, one-mul, zero-add, suc-add}
 use Rattle.std.proofs.Math.ListN.{get_or-map}
 use Rattle.std.proofs.Math.Seq.{take-nil}
 use Rattle.std.proofs.lemmas.Slice.{take-put_mid_below}
@@ -11,6 +11,7 @@ use Rattle.terms.specs.declared.Refusal.TheVariants.{Kinds, Bound, Length, Cost,
 use Rattle.terms.specs.declared.Refused.{Refused}
 use Rattle.terms.specs.Answers.{refuse}
 use Rattle.terms.specs.Outcome.{Outcome}
+use Rattle.loads.specs.KitTests.{kit_tests}
 use Rattle.sides.specs.Fine.{side_tests}
 use Rattle.terms.specs.Load.{grade}
 use Rattle.terms.specs.Flat.{left_at, right_at}
@@ -81,6 +82,22 @@ module _ (ps : Pieces) (row : List ℕ) (q : Pieces) (e : read_line 1 (shaped 0 
 abbrev pub judged_got : {A : Type 0} → Result ⊤ Refused → A → Got A
 judged_got (Ok u) r = fine r
 judged_got (Err refused) r = wrong refused.why refused.place
+
+fine_within : (most v : ℕ) → (1 ≤ v) × (v ≤ most) → within 1 most v ≡ true
+fine_within most v h = rw (le-leb 1 v h.0, le-leb v most h.1)
+
+not_within : (most v : ℕ) → ((1 ≤ v) × (v ≤ most) → ⊥) → within 1 most v ≡ false
+not_within most v h = go (leb 1 v) refl (leb v most) refl
+  where
+    go : (t : Bool) → leb 1 v ≡ t → (u : Bool) → leb v most ≡ u → (t && u) ≡ false
+    go true e true f = absurd (h (leb-true 1 v e, leb-true v most f))
+    go true e false f = refl
+    go false e u f = refl
+
+pub kit_judged : (n b : ℕ) (q : Pieces) (r : Result ⊤ Refused) → Outcome (λ r. r ≡ Ok tt) (kit_tests n b 1) r → kit_of n b q ≡ judged_got r (record { kinds = n; bound = b }, q)
+kit_judged n b q r (inl f) = rw (not_within 12 n f.0, f.1)
+kit_judged n b q r (inr (k, inl f)) = rw (fine_within 12 n k, not_within 1000 b f.0, f.1)
+kit_judged n b q r (inr (k, inr (c, d))) = rw (fine_within 12 n k, fine_within 1000 b c, d)
 
 -- ## Sizes and costs
 
